@@ -238,20 +238,20 @@ of_run (r ∷ rs) steps =
 
 -- a slice
 module _ (old new : PlainCaller) (capacity turn harts n made : ℕ) (last : Then) (steps : SliceSteps)
-    (last_is : last ≡ after_step steps.last) (made_is : made ≡ turns_of last steps.count) (same : new.start ≡ old.start)
+    (last_is : last ≡ steps.then) (made_is : made ≡ turns_of last steps.count) (same : new.start ≡ old.start)
     (c : IsSliceCall old.seat capacity turn harts n old.receipts new.seat new.receipts steps) where
   of_step : (k : ℕ) (r : PlainReceipt) → slice_get c.receipts k ≡ Some r
       → (hart : ℕ) × (r.event ≡ event.Do (command.Board (asked.Step hart)))
   of_step k r there = ((turn + k) % harts, (c.of_seat.receipts.each k r there).event_is)
 
-  is_last : (k : ℕ) (r : PlainReceipt) → slice_get c.receipts k ≡ Some r → suc k ≡ length c.receipts → r.reply ≡ steps.last
+  is_last : (k : ℕ) (r : PlainReceipt) → slice_get c.receipts k ≡ Some r → suc k ≡ length c.receipts → after_step r.reply ≡ steps.then
   is_last k r there is =
-      subst (λ o. IfSome o (λ (x : PlainReceipt). x.reply ≡ steps.last)) there
-      (subst (λ n. IfSome (slice_get c.receipts n) (λ (x : PlainReceipt). x.reply ≡ steps.last)) (omega (arith, is)) c.told.last)
+      subst (λ o. IfSome o (λ (x : PlainReceipt). after_step x.reply ≡ steps.then)) there
+      (subst (λ n. IfSome (slice_get c.receipts n) (λ (x : PlainReceipt). after_step x.reply ≡ steps.then)) (omega (arith, is)) c.told.last)
 
   turned_is : flat_map (λ (r : PlainReceipt). mark_made r.event r.reply) c.receipts ≡ turns harts turn made (after_turns last)
   turned_is =
-      slice_turns c.receipts harts turn steps.last (λ k r there. (c.of_seat.receipts.each k r there).event_is)
+      slice_turns c.receipts harts turn steps.then (λ k r there. (c.of_seat.receipts.each k r there).event_is)
       c.of_seat.goes_on is_last
       ∙ ap (λ t. turns harts turn (turns_of t (length c.receipts)) (after_turns t)) (sym last_is)
       ∙ ap (λ n. turns harts turn (turns_of last n) (after_turns last)) (sym c.told.count)

@@ -198,16 +198,16 @@ no_steps harts turn Elsewhere = refl
 no_steps harts turn (Halted s) = refl
 
 -- the steps of a slice are turns, except the last one if the other host is to make it
-pub slice_turns : (rs : List PlainReceipt) (harts turn : ℕ) (last : HostReply)
+pub slice_turns : (rs : List PlainReceipt) (harts turn : ℕ) (last : Then)
     → ((k : ℕ) (r : PlainReceipt) → slice_get rs k ≡ Some r → r.event ≡ step_of (turn + k) harts)
     → ((k : ℕ) (r : PlainReceipt) → slice_get rs k ≡ Some r → suc k < length rs → ends_steps (reply_of r.reply) ≡ false)
-    → ((k : ℕ) (r : PlainReceipt) → slice_get rs k ≡ Some r → suc k ≡ length rs → r.reply ≡ last)
-    → told rs ≡ turns harts turn (turns_of (after_step last) (length rs)) (after_turns (after_step last))
-slice_turns [] harts turn last steps goes ends = no_steps harts turn (after_step last)
+    → ((k : ℕ) (r : PlainReceipt) → slice_get rs k ≡ Some r → suc k ≡ length rs → after_step r.reply ≡ last)
+    → told rs ≡ turns harts turn (turns_of last (length rs)) (after_turns last)
+slice_turns [] harts turn last steps goes ends = no_steps harts turn last
 slice_turns (r ∷ []) harts turn last steps goes ends =
     ap (λ e. mark_made e r.reply ++ []) (steps zero r refl ∙ ap (λ n. step_of n harts) (omega arith))
-    ∙ ap (λ y. turn_of_step (turn % harts) (after_step y) ++ []) (ends zero r refl refl)
-    ∙ one_step harts turn (after_step last)
+    ∙ ap (λ t. turn_of_step (turn % harts) t ++ []) (ends zero r refl refl)
+    ∙ one_step harts turn last
 slice_turns (r ∷ s ∷ rs) harts turn last steps goes ends =
     ap (λ e. mark_made e r.reply ++ told (s ∷ rs)) (steps zero r refl ∙ ap (λ n. step_of n harts) (omega arith))
     ∙ ap (λ t. turn_of_step (turn % harts) t ++ told (s ∷ rs)) (after_going r.reply (goes zero r refl (omega arith)))
@@ -216,7 +216,7 @@ slice_turns (r ∷ s ∷ rs) harts turn last steps goes ends =
     (λ k t here. steps (suc k) t here ∙ ap (λ n. step_of n harts) (omega arith))
     (λ k t here more. goes (suc k) t here (omega (arith, more)))
     (λ k t here is. ends (suc k) t here (ap suc is)))
-    ∙ step_before harts turn (length rs) (after_step last)
+    ∙ step_before harts turn (length rs) last
 
 -- the turns that calls at the first host, or at the second, tell
 pub told_a : (rs : List PlainReceipt) → flat_map marks_in (map AtA rs) ≡ told rs

@@ -8,9 +8,12 @@ use Rattle.rvm_recorder.specs.Receipts.{PlainReceipt}
 use Rattle.std.proofs.lemmas.Option.{same_Some, slice_get-get_or}
 use Rattle.rvm_recorder.specs.Calls.{AreOfSeat, IsReceipt}
 use Rattle.rvm_recorder.specs.declared.items.ReceiptItem.{ReceiptItem}
+use Rattle.rvm_recorder.specs.declared.items.ReceiptItem.TheVariants as item
+use Rattle.rvm_recorder.specs.Entries.{PlainEntry}
 use Rattle.rvm_recorder.specs.Runs.{all_of, count_in}
 use Rattle.rvm_recorder.specs.Telling.{receipt_at}
 use Rattle.rvm_recorder.proofs.Runs.{all_append}
+use Rattle.rvm_recorder.proofs.RoundsTold.{last_dry}
 use Rattle.rvm_recorder.proofs.Tellings.{last_is}
 use Rattle.rvm_recorder.specs.Seats.{PlainSeat, seat_of}
 use Rattle.rvm_message.specs.declared.event.HostEvent.{HostEvent}
@@ -19,6 +22,9 @@ use Rattle.rvm_message.specs.Exchanges.{exchange}
 use Rattle.rvm_cell.specs.declared.end.WorkEnd.{WorkEnd}
 use Rattle.rvm_cell.specs.Endings.{last_of}
 use Rattle.rvm_cell.specs.Heard.{frame_in, frames_in}
+use Rattle.rvm_cell.specs.Turns.{after_step}
+use Rattle.rvm_cell.specs.declared.slices.Then.{Then}
+use Rattle.rvm_cell.specs.declared.slices.Then.TheVariants.{GoOn}
 use Rattle.rvm_cell.specs.Work.{AreOfReceiver, IsCall, IsOfReceiver, IsWork, PlainCaller}
 
 -- what stands in two lists stands in the first, or in the second
@@ -81,17 +87,24 @@ all_appended (Ok x) new old more is ok = ap all_of is ∙ all_append old more
 all_appended (Err e) new old more is ok = absurd cc
 
 -- the last of all receipts is the last of the last item
-pub last_got : (items : List ReceiptItem) (x : ReceiptItem) (reply : HostReply) → Some x ≡ slice_get items (length items - 1)
-    → reply ≡ (receipt_at x (count_in x - 1)).reply
-    → IfSome (slice_get (all_of items) (length (all_of items) - 1)) (λ r. r.reply ≡ reply)
-last_got [] x reply is told = tt
-last_got (y ∷ items) x reply is told =
+pub last_got : (items : List ReceiptItem) (x : ReceiptItem) (last : Then) → Some x ≡ slice_get items (length items - 1)
+    → last ≡ after_step (receipt_at x (count_in x - 1)).reply
+    → IfSome (slice_get (all_of items) (length (all_of items) - 1)) (λ r. after_step r.reply ≡ last)
+last_got [] x last is told = tt
+last_got (y ∷ items) x last is told =
     let all = y ∷ items in
     let some : 0 < length all = omega arith in
     let within : length all - 1 < length all = omega arith in
     let got : get_or all (length all - 1) x ≡ x =
     same_Some (get_or all (length all - 1) x) x (sym (slice_get-get_or all (length all - 1) x within) ∙ sym is) in
-    subst (λ o. IfSome o (λ r. r.reply ≡ reply)) (sym (last_is all x some got)) (sym told)
+    subst (λ o. IfSome o (λ r. after_step r.reply ≡ last)) (sym (last_is all x some got)) (sym told)
+
+-- the next turn comes after the last receipt of an item that is not one receipt
+pub others_go_on : (x : ReceiptItem) → ((r : PlainReceipt) → x ≡ item.One r → ⊥)
+    → GoOn ≡ after_step (receipt_at x (count_in x - 1)).reply
+others_go_on (item.One r) other = absurd (other r refl)
+others_go_on (item.Steps s) other = refl
+others_go_on (item.Rounds r) other = ap (λ (e : PlainEntry). after_step e.reply) (sym (last_dry r))
 
 -- a value after all of a list is its last
 got_last : {X : Type 0} (xs : List X) (x : X) → slice_get (xs ++ x ∷ []) (length xs) ≡ Some x

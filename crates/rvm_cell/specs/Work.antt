@@ -12,6 +12,7 @@ use Rattle.rvm_message.specs.declared.reply.HostReply.{HostReply}
 use Rattle.rvm_message.specs.Exchanges.{PlainExchange}
 use Rattle.rvm_precopy.specs.declared.policy.Policy.{Policy}
 use Rattle.rvm_cell.specs.declared.steps.SliceSteps.{SliceSteps}
+use Rattle.rvm_cell.specs.Turns.{after_step}
 
 -- the receipts are those of the seat's calls since it was at `first`, in order
 pub record IsWork (first seat : PlainSeat) (receipts : List PlainReceipt) : Type 0 where
@@ -76,7 +77,7 @@ pub record IsCall (old : PlainSeat) (event : HostEvent) (before : List PlainRece
 -- the receipts of a slice tell its steps
 pub record AreSliceSteps (receipts : List PlainReceipt) (steps : SliceSteps) : Type 0 where
   pub count : steps.count ≡ length receipts
-  pub last : IfSome (slice_get receipts (length receipts - 1)) (λ r. r.reply ≡ steps.last)
+  pub last : IfSome (slice_get receipts (length receipts - 1)) (λ r. after_step r.reply ≡ steps.then)
 
 -- one slice of at most n steps was made, at a journal that takes `capacity` entries: the receipts of its steps stand
 -- after the others

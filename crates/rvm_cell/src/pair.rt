@@ -121,7 +121,7 @@ impl<A: Seating, B: Seating> Pair<A, B> {
         } else {
             self.at_b.slice(rt, alloc, hosts.b, turn, harts, n)?
         };
-        Ok(made_by(&steps))
+        Ok(made_by(steps))
     }
 
     /// Makes a slice at the gate. If the guest is elsewhere, the other host is asked next.

@@ -59,14 +59,14 @@ pub(crate) fn after_step(reply: &HostReply) -> Then
 }
 
 /// The turns of a slice of these steps. A last step that the other host is to make was no turn.
-pub(crate) fn made_by(steps: &SliceSteps) -> MadeTurns
-    ensures then { result.then ≡ after_step steps.now.last }
-    ensures made { result.made ≡ turns_of result.then steps.now.count }
-    ensures within { result.made ≤ steps.now.count }
+pub(crate) fn made_by(steps: SliceSteps) -> MadeTurns
+    ensures then { result.then ≡ steps.then }
+    ensures made { result.made ≡ turns_of result.then steps.count }
+    ensures within { result.made ≤ steps.count }
     ensures some { result.then ≢ Elsewhere → 1 ≤ result.made }
 {
     let count = steps.count;
-    match after_step(&steps.last) {
+    match steps.then {
         Then::Elsewhere => MadeTurns {
             made: count - 1,
             then: Then::Elsewhere,

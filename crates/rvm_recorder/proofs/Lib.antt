@@ -4,6 +4,7 @@ pub mod InRounds
 pub mod Replays
 pub mod Retired
 pub mod Slices
+pub mod Slicing
 pub mod Sends
 pub mod Kept
 mod Examples

@@ -2,14 +2,14 @@
 use Rattle.std.proofs.Common.{◌≡◌, ◌∙◌, ℕ, zero, suc, ◌+◌, List, [], ◌∷◌, ◌++◌, ◌-◌, ◌≤◌, min, length, map, Some, refl, sym, ap, subst, arith, inl, inr}
 use Rattle.std.specs.Prelude.{slice_get, ◌⊎◌}
 use Rattle.std.proofs.lemmas.Bool.{cases_lt}
-use Rattle.std.proofs.lemmas.List.{append_assoc, length-map, map-append}
+use Rattle.std.proofs.lemmas.List.{length-map}
 use Rattle.std.proofs.lemmas.Option.{same_Some}
 use Rattle.rvm_recorder.specs.Receipts.{PlainReceipt}
 use Rattle.rvm_recorder.specs.Calls.{AreOfSeat, AreReceipts, IsReceipt, IsSliceCalled, IsWhole, replies_of}
 use Rattle.rvm_recorder.specs.Seats.{PlainSeat, seat_of}
 use Rattle.rvm_recorder.specs.Entries.{PlainEntry}
-use Rattle.rvm_recorder.specs.History.{Recording, count_of, with_room}
-use Rattle.rvm_recorder.specs.Slices.{IsSliceRecorded, IsSteps, most_of, step_of}
+use Rattle.rvm_recorder.specs.History.{Recording, count_of}
+use Rattle.rvm_recorder.specs.Slices.{step_of}
 use Rattle.rvm_message.specs.declared.reply.HostReply.{HostReply}
 use Rattle.rvm_message.specs.Replies.{ends_steps, reply_of}
 
@@ -47,26 +47,6 @@ more_receipts seat place turn harts rs r so at is = record {
         subst (λ x. IsReceipt (seat_of seat.id (seat.count + k)) (step_of (turn + k) harts) x) last.1
         (subst (λ n. IsReceipt (seat_of seat.id (seat.count + n)) (step_of (turn + n) harts) r) (sym last.0) is)
   ]);
-}
-
--- the replies of the receipts, and those that are left
-pub more_replies : (rs : List PlainReceipt) (r : PlainReceipt) (left rest all : List HostReply)
-    → replies_of rs ++ left ≡ all → left ≡ r.reply ∷ rest → replies_of (rs ++ r ∷ []) ++ rest ≡ all
-more_replies rs r left rest all so is =
-    ap (λ xs. xs ++ rest) (map-append (λ (x : PlainReceipt). x.reply) rs (r ∷ []))
-    ∙ append_assoc (replies_of rs) (r.reply ∷ []) rest
-    ∙ sym (ap (λ xs. replies_of rs ++ xs) is) ∙ so
-
--- a slice that was recorded, with its receipts
-pub slice_called : (old new : Recording) (seat : PlainSeat) (turn harts n place : ℕ) (rs : List PlainReceipt)
-    (replies : List HostReply) → IsSliceRecorded old turn harts n (place, replies) new
-    → AreReceipts seat place turn harts rs → replies_of rs ≡ replies → IsSliceCalled old seat turn harts n rs new
-slice_called old new seat turn harts n place rs replies is are told = record {
-  receipts = subst (λ p. AreReceipts seat p turn harts rs) is.place are;
-  recorded = record {
-    place = refl;
-    steps = subst (λ xs. IsSteps (with_room old (most_of old n)) turn harts (most_of old n) xs new) (sym told) is.steps;
-  };
 }
 
 -- a slice has a step, and no more than it was asked for

@@ -1,6 +1,6 @@
 -- The receipts of a slice, one more run of them.
 use Rattle.std.proofs.Common.{◌≡◌, ◌∙◌, ℕ, zero, suc, ◌+◌, List, [], ◌∷◌, ◌++◌, length, length-append, replicate, Option, Some, None, refl, sym, ap, subst, arith}
-use Rattle.std.proofs.lemmas.List.{append_assoc, append-nil, length-replicate, map-append}
+use Rattle.std.proofs.lemmas.List.{append_assoc, append-nil, map-append}
 use Rattle.rvm_hart.specs.declared.outcome.Stepped.TheVariants.{Retired}
 use Rattle.rvm_recorder.specs.Calls.{AreReceipts, replies_of}
 use Rattle.rvm_recorder.specs.declared.items.ReceiptItem.{ReceiptItem}
@@ -9,9 +9,8 @@ use Rattle.rvm_recorder.specs.Runs.{all_of, last_receipt, receipts_of, run_recei
 use Rattle.rvm_recorder.specs.Seats.{PlainSeat}
 use Rattle.rvm_recorder.proofs.Receipts.{more_receipts}
 use Rattle.rvm_recorder.specs.declared.run.StepRun.{StepRun}
-use Rattle.rvm_recorder.specs.Items.{last_reply, one_if, replies_in, replies_of_all, steps_of}
+use Rattle.rvm_recorder.specs.Items.{last_reply, one_if, replies_in, steps_of}
 use Rattle.rvm_recorder.specs.Slices.{replies_to, step_of}
-use Rattle.rvm_message.specs.declared.reply.HostReply.{HostReply}
 use Rattle.rvm_message.specs.declared.step.StepReply.{StepReply}
 use Rattle.rvm_message.specs.declared.step.StepReply.TheVariants.{Stepped}
 use Rattle.rvm_message.specs.Steps.{reply_to_step}
@@ -113,30 +112,3 @@ module _ (seat : PlainSeat) (place turn harts : ℕ) where
       subst (AreReceipts seat place turn harts)
       (append_assoc rs first (last_receipt (p + n) seat.id (c + n) (t + n) harts run.last))
       (last_behind run.last (rs ++ first) (k + n) (p + n) (c + n) (t + n) on long (omega (arith, at)) (omega (arith, counts)) (omega (arith, turns)))
-
--- the replies of runs
-one_length : (o : Option StepReply) → length (last_reply o) ≡ one_if o
-one_length None = refl
-one_length (Some r) = refl
-
-in_length : (run : StepRun) → length (replies_in run) ≡ steps_of run
-in_length run =
-    let last = one_length run.last in
-    omega (arith, last, length-replicate run.retired (Stepped Retired), length-append (replicate run.retired (Stepped Retired)) (last_reply run.last))
-
-pub run_step : (run : StepRun) (left : List StepRun) → length (replies_of_all (run ∷ left)) ≡ steps_of run + length (replies_of_all left)
-run_step run left =
-    let some = in_length run in
-    omega (arith, some, length-append (replies_in run) (replies_of_all left))
-
--- the replies of receipts, with those that are left
-pub more_run : (rs rr : List PlainReceipt) (run : StepRun) (left rest : List StepRun) (all : List HostReply)
-    → replies_of rs ++ replies_to (replies_of_all rest) ≡ all → rest ≡ run ∷ left → replies_of rr ≡ replies_to (replies_in run)
-    → replies_of (rs ++ rr) ++ replies_to (replies_of_all left) ≡ all
-more_run rs rr run left rest all so is told =
-    ap (λ xs. xs ++ replies_to (replies_of_all left)) (map-append (λ (x : PlainReceipt). x.reply) rs rr)
-    ∙ append_assoc (replies_of rs) (replies_of rr) (replies_to (replies_of_all left))
-    ∙ ap (λ xs. replies_of rs ++ (xs ++ replies_to (replies_of_all left))) told
-    ∙ ap (λ xs. replies_of rs ++ xs) (sym (map-append (λ r. reply_to_step r) (replies_in run) (replies_of_all left)))
-    ∙ ap (λ xs. replies_of rs ++ replies_to (replies_of_all xs)) (sym is)
-    ∙ so

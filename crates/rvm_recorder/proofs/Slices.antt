@@ -136,6 +136,18 @@ twice r xs ys n m = ap (λ zs. with_all r zs m) (append_assoc r.journal.entries 
 nothing : (r : Recording) (n : ℕ) → n ≡ r.journal.reserved → with_entries r [] n ≡ r
 nothing r n is = ap (λ zs. with_all r zs n) (append-nil r.journal.entries) ∙ ap (λ k. with_all r r.journal.entries k) is
 
+-- no step was recorded yet
+pub none_made : (r : Recording) (turn harts : ℕ) → IsGoing r turn harts 0 [] r
+none_made r turn harts = record {
+  entries = [];
+  many = refl;
+  events = λ k x at. cc;
+  silent_all = λ k x at. cc;
+  goes_on = λ k x at. cc;
+  replies_are = refl;
+  next = sym (nothing r (r.journal.reserved - 0) (omega arith));
+}
+
 -- steps that retired
 run_goes : (k : ℕ) (old now : Recording) (turn harts count : ℕ) (replies : List StepReply)
     → IsGoing old turn harts count replies now

@@ -16,7 +16,7 @@ use crate::run::StepRun;
 use crate::step_receipts::StepReceipts;
 use crate::steps::Steps;
 use rvm_hart::Stepped;
-use rvm_message::{Exchange, ExchangeRef, HostReply, StepReply};
+use rvm_message::{Exchange, ExchangeRef, StepReply};
 
 /// An item of receipts: one receipt, or any number of receipts of steps that retired an instruction, or of rounds of
 /// such steps.
@@ -102,17 +102,6 @@ impl ReceiptItem {
         }
     }
 
-    /// Returns the reply of the last receipt.
-    pub fn last_reply(&self) -> HostReply
-        ensures { result ≡ (receipt_at self.now (count_in self.now - 1)).reply }
-    {
-        match self {
-            ReceiptItem::One(receipt) => receipt.reply(),
-            ReceiptItem::Steps(_) => StepReply::Stepped(Stepped::Retired).reply(),
-            ReceiptItem::Rounds(rounds) => dry_reply(rounds.rounds.drain),
-        }
-    }
-
     /// Returns how many receipts there are, at least 1.
     pub fn len(&self) -> u32
         ensures count { result ≡ count_in self.now }
@@ -124,13 +113,6 @@ impl ReceiptItem {
             ReceiptItem::Rounds(rounds) => rounds.rounds.len(),
         }
     }
-}
-
-/// The reply to a drain that found nothing.
-fn dry_reply(drain: u32) -> HostReply
-    ensures { result ≡ (dry_exchange drain).reply }
-{
-    Exchange::dry(drain).reply()
 }
 
 /// Passes the entries that belong to the receipts of steps from `index` on, as `ReceiptItem::skip` does.

@@ -6,15 +6,13 @@ ghost use Rattle.rvm_recorder.specs.Runs.{all_of};
 ghost use Rattle.rvm_recorder.specs.Seats.{seat_of};
 ghost use Rattle.rvm_recorder.specs.Errors.{IsRecordError, IsSized, IsSliceError};
 ghost use Rattle.rvm_recorder.specs.History.{count_of};
-ghost use Rattle.rvm_recorder.specs.Items.{replies_of_all};
-ghost use Rattle.rvm_recorder.specs.Slices.{replies_to};
+ghost use Rattle.rvm_recorder.specs.Slices.{IsSteps};
 ghost use Rattle.rvm_message.specs.Exchanges.{dry_exchange};
 
 use crate::error::{RecordError, SliceError};
 use crate::items::{ReceiptItem, push_run};
 use crate::receipt::Receipt;
 use crate::recorded::Recorded;
-use crate::run::StepRun;
 use crate::seat::{Seat, Seating, keep};
 use crate::shared::SharedHost;
 use rvm_frame::Addressed;
@@ -179,11 +177,11 @@ impl<L: Seating, M: PagedMemory + Drop> Locked<L, M> {
             ..
         } = seat;
         book.audit(share);
-        let (place, runs) = recorded.record_slice(alloc, turn, harts, n)?;
-        let steps = u64::from(steps_in(runs.as_slice()));
-        book.add(share, steps);
-        let receipts = slice_receipts(place, *id, *count, turn, harts, runs, receipts);
-        *count += steps;
+        let most = recorded.room_for_slice(alloc, harts, n)?;
+        let mut receipts = receipts;
+        let steps = record_receipts(recorded, *id, *count, turn, harts, most, &mut receipts);
+        book.add(share, u64::from(steps));
+        *count += u64::from(steps);
         Ok(receipts)
     }
 }
@@ -193,54 +191,38 @@ fn is_start(reply: &HostReply) -> bool {
     matches!(reply, HostReply::Started)
 }
 
-/// How many steps these runs have.
-fn steps_in(runs: &[StepRun]) -> u32
-    requires { length (replies_of_all runs.now) ≤ 64 }
-    ensures { result ≡ length (replies_of_all runs.now) }
-{
-    let mut steps: u32 = 0;
-    let mut k = 0;
-    while k < runs.len() {
-        let run = runs[k];
-        steps += run.count();
-        k += 1;
-    }
-    steps
-}
-
-/// A receipt for each reply of a slice from a place and a turn on.
-fn slice_receipts(
-    place: u32,
+/// Records the steps of a slice, for which there is room, and makes a receipt for each. Returns how many were made.
+fn record_receipts<M: PagedMemory + Drop>(
+    recorded: &mut Recorded<M>,
     seat: u32,
     count: u64,
     turn: u32,
     harts: u32,
-    runs: Vec<StepRun>,
-    receipts: Vec<ReceiptItem>,
-) -> Vec<ReceiptItem>
+    most: u32,
+    receipts: &mut Vec<ReceiptItem>,
+) -> u32
     requires harts { 1 ≤ harts }
-    requires empty { receipts.items ≡ [] }
-    requires room { length (replies_of_all runs.items) ≤ vec_capacity receipts }
-    requires few { length (replies_of_all runs.items) ≤ 64 }
-    requires places { place + length (replies_of_all runs.items) < 2 ^ 32 }
-    requires counts { count + length (replies_of_all runs.items) < 2 ^ 64 }
-    ensures receipts { AreReceipts (seat_of seat count) place turn harts (all_of result.items) }
-    ensures replies { replies_of (all_of result.items) ≡ replies_to (replies_of_all runs.items) }
-    ensures count { length (all_of result.items) ≡ length (replies_of_all runs.items) }
+    requires some { (1 ≤ most) × (most ≤ 64) }
+    requires reserved { most ≤ recorded.old.journal.reserved }
+    requires places { count_of recorded.old + most < 2 ^ 32 }
+    requires counts { count + most < 2 ^ 64 }
+    requires room { (receipts.old.items ≡ []) × (most ≤ vec_capacity receipts.old) }
+    ensures steps { IsSteps recorded.old turn harts most (replies_of (all_of receipts.new.items)) recorded.new }
+    ensures receipts { AreReceipts (seat_of seat count) (count_of recorded.old) turn harts (all_of receipts.new.items) }
+    ensures count { result ≡ length (all_of receipts.new.items) }
+    ensures few { result ≤ most }
 {
-    let mut receipts = receipts;
-    let mut behind: u32 = 0;
-    for run in runs {
-        push_run(
-            &mut receipts,
-            place + behind,
-            seat,
-            count + u64::from(behind),
-            u64::from(turn) + u64::from(behind),
-            harts,
-            run,
-        );
-        behind += run.count();
+    let place = recorded.count();
+    let mut made = 0;
+    while made < most {
+        let at = u64::from(turn) + u64::from(made);
+        let run = recorded.record_run(at, harts, most - made);
+        let calls = count + u64::from(made);
+        push_run(receipts, place + made, seat, calls, at, harts, run);
+        made += run.count();
+        if run.ends_steps() {
+            return made;
+        }
     }
-    receipts
+    made
 }

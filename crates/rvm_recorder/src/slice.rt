@@ -5,7 +5,7 @@ ghost use Rattle.rvm_recorder.specs.declared.error.SliceError.TheVariants.{OutOf
 ghost use Rattle.rvm_recorder.specs.Errors.{IsSized, IsSliceError};
 ghost use Rattle.rvm_recorder.specs.History.{count_of, with_entries, with_room};
 ghost use Rattle.rvm_recorder.specs.Items.{entries_in, replies_of_all, steps_of};
-ghost use Rattle.rvm_recorder.specs.Slices.{IsSliceRecorded, IsSteps, replies_to};
+ghost use Rattle.rvm_recorder.specs.Slices.{IsSliceRecorded, IsSteps, most_of, replies_to};
 
 use crate::error::SliceError;
 use crate::recorded::Recorded;
@@ -38,6 +38,43 @@ impl<M: PagedMemory + Drop> Recorded<M> {
         ensures few { IfOk result (λ r. length (replies_of_all r.1.items) ≤ 64) }
         ensures places { IfOk result (λ r. r.0 + length (replies_of_all r.1.items) < 2 ^ 32) }
     {
+        let place = self.count();
+        let most = self.most_steps(harts, n)?;
+        let replies = self.room_for_replies(alloc, most)?;
+        let replies = self.record_steps(turn, harts, most, replies);
+        Ok((place, replies))
+    }
+
+    /// Makes room for a slice of n steps, and returns how many of them may be made. If the slice is out of range, memory
+    /// runs out or no place is free, nothing changes.
+    pub(crate) fn room_for_slice(
+        &mut self,
+        alloc: Global,
+        harts: u32,
+        n: u32,
+    ) -> Result<u32, SliceError>
+        ensures most { IfOk result (λ most. most ≡ most_of self.old n) }
+        ensures some { IfOk result (λ most. (1 ≤ most) × (most ≤ 64)) }
+        ensures places { IfOk result (λ most. count_of self.old + most < 2 ^ 32) }
+        ensures room { IfOk result (λ most. self.new ≡ with_room self.old most) }
+        ensures err { OnErr result (self.new ≡ self.old) }
+        ensures fault { IfErr result (λ e. IsSliceError e harts n (count_of self.old) self.old.capacity) }
+        ensures sized { OnOk result (IsSized harts n) }
+    {
+        let most = self.most_steps(harts, n)?;
+        self.room_for_steps(alloc, most)?;
+        Ok(most)
+    }
+
+    /// How many steps a slice of n steps may have: n, or as many as there are free places, if these are fewer.
+    fn most_steps(&self, harts: u32, n: u32) -> Result<u32, SliceError>
+        ensures most { IfOk result (λ most. most ≡ most_of self.now n) }
+        ensures some { IfOk result (λ most. (1 ≤ most) × (most ≤ 64)) }
+        ensures free { IfOk result (λ most. count_of self.now + most ≤ self.now.capacity) }
+        ensures places { IfOk result (λ most. count_of self.now + most < 2 ^ 32) }
+        ensures fault { IfErr result (λ e. IsSliceError e harts n (count_of self.now) self.now.capacity) }
+        ensures sized { OnOk result (IsSized harts n × (count_of self.now < self.now.capacity)) }
+    {
         if !is_slice_in_range(harts, n) {
             return Err(SliceError::OutOfRange);
         }
@@ -46,14 +83,11 @@ impl<M: PagedMemory + Drop> Recorded<M> {
         if place >= capacity {
             return Err(SliceError::RecorderFull(capacity));
         }
-        let most = n.min(capacity - place);
-        let replies = self.room_for_steps(alloc, most)?;
-        let replies = self.record_steps(turn, harts, most, replies);
-        Ok((place, replies))
+        Ok(n.min(capacity - place))
     }
 
     /// Makes room for `most` steps, and returns a vector for their replies. If memory runs out, nothing changes.
-    fn room_for_steps(&mut self, alloc: Global, most: u32) -> Result<Vec<StepRun>, SliceError>
+    fn room_for_replies(&mut self, alloc: Global, most: u32) -> Result<Vec<StepRun>, SliceError>
         requires free { count_of self.old + most ≤ self.old.capacity }
         ensures room { OnOk result (self.new ≡ with_room self.old most) }
         ensures replies { IfOk result (λ r. (r.items ≡ []) × (most ≤ vec_capacity r)) }
@@ -63,10 +97,21 @@ impl<M: PagedMemory + Drop> Recorded<M> {
         let Ok(replies) = Vec::with_capacity(alloc, most as usize) else {
             return Err(SliceError::OutOfMemory);
         };
+        self.room_for_steps(alloc, most)?;
+        Ok(replies)
+    }
+
+    /// Makes room for `most` steps. If memory runs out, nothing changes.
+    fn room_for_steps(&mut self, alloc: Global, most: u32) -> Result<(), SliceError>
+        requires free { count_of self.old + most ≤ self.old.capacity }
+        ensures room { OnOk result (self.new ≡ with_room self.old most) }
+        ensures err { OnErr result (self.new ≡ self.old) }
+        ensures fault { IfErr result (λ e. e ≡ OutOfMemory) }
+    {
         if self.reserve(alloc, most).is_err() {
             return Err(SliceError::OutOfMemory);
         }
-        Ok(replies)
+        Ok(())
     }
 
     /// Records the steps of a slice, for which there is room.
@@ -97,7 +142,7 @@ impl<M: PagedMemory + Drop> Recorded<M> {
     }
 
     /// Records at most `most` steps of harts in turn, up to the first that does not retire an instruction.
-    fn record_run(&mut self, turn: u64, harts: u32, most: u32) -> StepRun
+    pub(crate) fn record_run(&mut self, turn: u64, harts: u32, most: u32) -> StepRun
         requires harts { 1 ≤ harts }
         requires some { 1 ≤ most }
         requires turn { turn < 2 ^ 33 }
