@@ -1,5 +1,6 @@
 -- Lines of extended sessions and their answers, by the definitions.
-use Rattle.std.proofs.Common.{◌≡◌, ℕ, ◌^◌, ◌-◌, [], ◌∷◌, Option, Some, None, true, false, codes, refl}
+use Rattle.std.proofs.Common.{◌≡◌, ◌∙◌, ℕ, ◌+◌, ◌^◌, ◌-◌, ◌%◌, ◌<◌, [], ◌∷◌, length, Option, Some, None, is_some, true, false, codes, refl, sym, ap}
+use Rattle.std.proofs.Math.Nat.{mod-add-mod, mod-lt}
 use Rattle.std.specs.Fmt.{digits}
 use Rattle.hex.specs.Hex.{encode_with}
 use Rattle.rvm_csr.specs.Registers as csr
@@ -9,7 +10,9 @@ use Rattle.rvm_dis.specs.Pieces.{hex_digits}
 use Rattle.rvm_hart.specs.Machine.{HartState, Shared}
 use Rattle.rvm_board.specs.Guest.{Guest}
 use Rattle.rvm_board.specs.State.{state_of}
-use Rattle.rvm_board.specs.Turns.{after_turns}
+use Rattle.rvm_board.specs.declared.turns.Order.TheVariants.{RoundRobin}
+use Rattle.rvm_board.specs.Turns.{AfterTurns, after_turns, behind}
+use Rattle.rvm_board.proofs.Turning.{all_were_made, turns_count}
 use Rattle.rvm_debug.specs.declared.line.Line.TheVariants as plain
 use Rattle.rvm_debug.specs.Lines.{command_of, line_of}
 use Rattle.rvm_debug.specs.Words.{words_from}
@@ -17,7 +20,7 @@ use Rattle.rvm_command.specs.declared.extended_line.ExtendedLine.TheVariants as 
 use Rattle.rvm_command.specs.ExtendedAnswers.{csrs_answer, csrs_text, devices_text, hart_lines, turns_text}
 use Rattle.rvm_command.specs.ExtendedLines.{extended_command_of, extended_line_of}
 use Rattle.rvm_command.specs.ExtendedRuns.{session_told}
-use Rattle.rvm_command.specs.ExtendedScript.{session_of}
+use Rattle.rvm_command.specs.ExtendedScript.{session_of, turns_from}
 
 -- LINES
 
@@ -140,3 +143,14 @@ a_halted_board_ends_turns h r = refl
 a_line_that_is_none_ends_it : (h : HartState) (r : Shared) → (session_told (codes "turns 5" ∷ codes "turn 5" ∷ codes "turns 5" ∷ []) (two_harts h r (Some 3))).end ≡ Some 2
 unfolding session_of extended_line_of extended_command_of line_of words_from command_of after_turns
 a_line_that_is_none_ends_it h r = refl
+
+-- turns that were all made, and those of a later line, are as many turns of one line
+turns_of_two_lines : (n m t : ℕ) (g : Guest) → 0 < length g.board.harts → (turns_from n t g).stop ≡ None
+    → turns_from (n + m) t g ≡ behind (turns_from n t g).pages n (turns_from m (t + n) (turns_from n t g).guest)
+turns_of_two_lines n m t g some on =
+    let harts = length g.board.harts in
+    let made : AfterTurns = turns_from n t g in
+    let size : length made.guest.board.harts ≡ harts = turns_count RoundRobin n (t % harts) g in
+    let first : (t % harts + n) % harts ≡ (t + n) % length made.guest.board.harts = mod-add-mod t harts n ∙ ap (λ k. (t + n) % k) (sym size) in
+    all_were_made harts (n + m) n m (t % harts) g refl refl (mod-lt t {m = harts} some) (ap is_some on)
+    ∙ ap (λ h. behind made.pages n (after_turns RoundRobin m h made.guest)) first
