@@ -2,8 +2,8 @@
 //! answers.
 //!
 //! Stands on `rvm_board` for what events do, on `rvm_text` for numbers and names, and on `rvm_dis` for the text of a
-//! word. It knows nothing of files, processes or hosts. The functions that read words and lines, do lines and write
-//! answers are public, for scripts with further kinds of lines.
+//! word. It knows nothing of files, processes or hosts. The functions that read words and lines and write answers are
+//! public, for scripts with further kinds of lines.
 //!
 //! To be read in this order: `words`, `hex_text`, `command`, `line`, `answers`, `lines`, `script`.
 #![tactic(auto)]
