@@ -1,18 +1,12 @@
 -- A trace that is flushed.
-use Rattle.std.proofs.Common.{◌≡◌, ◌⊎◌, ◌<◌, ◌∙◌, arith, ℕ, List, Option, None, Some, Bool, length, inl, inr}
-use Rattle.std.specs.Io.KnownBytes.{Appends, Keeps}
+use Rattle.std.proofs.Common.{◌⊎◌, ◌<◌, arith, ℕ, List, Option, None, Some, Bool, length, inl, inr}
+use Rattle.std.specs.Io.KnownBytes.{Keeps}
 use Rattle.rvm_arguments.specs.declared.arguments.TraceArguments.{TraceArguments}
 use Rattle.rvm_board.specs.Guest.{Guest, GuestState}
 use Rattle.rvm_command.specs.declared.run.Ended.{Ended}
+use Rattle.rvm_command.proofs.Refusals.{appends_kept}
 use Rattle.rvm_command.specs.Ends.{Writes}
 use Rattle.rvm_command.specs.Watched.{HasRun, Watched, run_with, traced_of}
-
--- bytes that were written, and then kept
-appends_kept : (before mid after : Option (List ℕ)) (bs : List ℕ) → Appends before mid bs → Keeps mid after → Appends before after bs
-appends_kept None mid after bs came kept = tt
-appends_kept (Some xs) None after bs came kept = absurd came
-appends_kept (Some xs) (Some ys) None bs came kept = absurd kept
-appends_kept (Some xs) (Some ys) (Some zs) bs came kept = kept ∙ came
 
 -- a run whose trace was flushed
 pub flushed : (r : Watched) (end : Ended) (old new : GuestState) (before after trace_before mid trace_after : Option (List ℕ))

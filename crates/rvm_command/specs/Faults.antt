@@ -1,9 +1,8 @@
 -- Traps and interrupts that the guest has no handler for: the next step of the same hart, the first of the handler,
 -- traps too.
-use Rattle.std.specs.Prelude.{ℕ, ◌+◌, ◌%◌, ◌==◌, if◌then◌else◌, List, [], ◌∷◌, length, Option, Some, None, option_map}
+use Rattle.std.specs.Prelude.{ℕ, ◌+◌, ◌==◌, if◌then◌else◌, List, [], ◌∷◌, length, Option, Some, None, option_map}
 use Rattle.rvm_csr.specs.declared.cause.Cause.{Cause}
 use Rattle.rvm_csr.specs.declared.cause.Cause.TheVariants as cause
-use Rattle.rvm_hart.specs.Bus.{ram_load}
 use Rattle.rvm_board.specs.declared.event.BoardReply.{BoardReply}
 use Rattle.rvm_board.specs.declared.event.BoardReply.TheVariants.{Trapped, Interrupted}
 use Rattle.rvm_board.specs.Board.{hart_at}
@@ -11,16 +10,13 @@ use Rattle.rvm_board.specs.Events.{pc_of}
 use Rattle.rvm_board.specs.Guest.{Guest}
 use Rattle.rvm_command.specs.declared.fault.Fault.{Fault}
 use Rattle.rvm_command.specs.Taken.{Taken}
+use Rattle.rvm_command.specs.WordAt.{word_at}
 
 -- why a step entered a handler, if it did
 abbrev pub cause_of : BoardReply → Option Cause
 cause_of (Trapped e) = Some (cause.Exception e)
 cause_of (Interrupted i) = Some (cause.Interrupt i)
 cause_of reply = None
-
--- the word at an address, if it is the address of a word of RAM
-abbrev pub word_at : (address : ℕ) → Guest → Option ℕ
-word_at a g = if a % 4 == 0 then ram_load 4 a g.board.shared.bytes else None
 
 -- what is reported of a trap of a hart, by its pc before it and the guest after it
 abbrev pub fault_at : (hart pc : ℕ) → Guest → Cause → Fault

@@ -1,6 +1,7 @@
 pub mod Run
 pub mod Slices
 pub mod Taken
+pub mod WordAt
 pub mod Faults
 pub mod FaultTexts
 pub mod Trace

@@ -1,5 +1,5 @@
 -- A line of a trace: a step of a hart, what its instruction wrote, and what became of it.
-use Rattle.std.specs.Prelude.{ℕ, ◌%◌, ◌==◌, if◌then◌else◌, List, [], ◌∷◌, ◌++◌, Option, Some, None, option_map, slice_index, codes}
+use Rattle.std.specs.Prelude.{ℕ, ◌==◌, if◌then◌else◌, List, [], ◌∷◌, ◌++◌, Option, Some, None, option_map, slice_index, codes}
 use Rattle.std.specs.Fmt.{decimal}
 use Rattle.rvm_isa.specs.declared.ins.Ins.{Ins}
 use Rattle.rvm_isa.specs.declared.ins.Ins.TheVariants.{Lui, Auipc, Jal, Jalr, Beq, Bne, Blt, Bge}
@@ -13,7 +13,6 @@ use Rattle.rvm_isa.specs.declared.ins.Ins.TheVariants.{Csrrwi, Csrrsi, Csrrci, L
 use Rattle.rvm_isa.specs.declared.ins.Ins.TheVariants.{AmoaddW, AmoxorW, AmoandW, AmoorW, AmominW}
 use Rattle.rvm_isa.specs.declared.ins.Ins.TheVariants.{AmomaxW, AmominuW, AmomaxuW}
 use Rattle.rvm_isa.specs.Table.{decoded}
-use Rattle.rvm_hart.specs.Bus.{ram_load}
 use Rattle.rvm_hart.specs.Kinds.{sum}
 use Rattle.rvm_board.specs.declared.event.BoardReply.{BoardReply}
 use Rattle.rvm_board.specs.declared.event.BoardReply.TheVariants.{Retired}
@@ -24,6 +23,7 @@ use Rattle.rvm_dis.specs.Pieces.{hex_digits}
 use Rattle.rvm_dis.specs.Disassembly.{line_at}
 use Rattle.rvm_debug.specs.Answers.{numbered_text, reply_word}
 use Rattle.rvm_command.specs.declared.trace.Before.{Before}
+use Rattle.rvm_command.specs.WordAt.{word_at}
 use Rattle.rvm_command.specs.declared.trace.Size.{Size}
 use Rattle.rvm_command.specs.declared.trace.Size.TheVariants as size
 use Rattle.rvm_command.specs.declared.trace.Stored.{Stored}
@@ -35,10 +35,6 @@ use Rattle.rvm_command.specs.declared.trace.Writes.TheVariants as writes
 -- registers x0 to x31 of a hart, then pc
 abbrev pub registers_of : (hart : ℕ) → Guest → List ℕ
 registers_of h g = (hart_at h g.board).regs ++ pc_of h g ∷ []
-
--- the word of RAM at an address, if that is a multiple of four in RAM
-abbrev pub word_at : (address : ℕ) → Guest → Option ℕ
-word_at a g = if a % 4 == 0 then ram_load 4 a g.board.shared.bytes else None
 
 -- what a trace shows of a hart before its step
 unfoldable pub before_of : (hart : ℕ) → Guest → Before

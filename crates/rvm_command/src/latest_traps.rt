@@ -2,10 +2,11 @@
 
 ghost use Rattle.std.specs.Prelude.{◌≡◌, ◌<◌, ◌+◌, None, get_or, length, replicate, slice_set, option_map};
 ghost use Rattle.rvm_board.specs.Board.{hart_at};
-ghost use Rattle.rvm_command.specs.Faults.{cause_of, fault_at, shown, word_at};
+ghost use Rattle.rvm_command.specs.Faults.{cause_of, fault_at, shown};
 
 use crate::fault::Fault;
-use rvm_board::{BoardEvent, BoardReply, Debugged, MAX_HARTS};
+use crate::trace::word_at;
+use rvm_board::{BoardReply, Debugged, MAX_HARTS};
 use rvm_csr::Cause;
 use rvm_mem::Memory;
 use std::marker::Model;
@@ -126,15 +127,4 @@ fn mtval<M: Memory>(guest: &Debugged<M>, hart: u32) -> u32
 {
     let snapshot = guest.snapshot();
     snapshot.harts[hart as usize].fields.csrs.mtval
-}
-
-/// The word at an address, if it is the address of a word of RAM.
-fn word_at<M: Memory>(guest: &mut Debugged<M>, address: u32) -> Option<u32>
-    ensures word { result ≡ word_at address guest.old.guest }
-    ensures guest { guest.new ≡ guest.old }
-{
-    match guest.apply(BoardEvent::Dis(address)) {
-        BoardReply::Line { word, .. } => Some(word),
-        _ => None,
-    }
 }

@@ -6,7 +6,7 @@
 //! what a trace and an extended session show of it, on `rvm_elf` for images, on `rvm_asm` and `rvm_dis`, on `rvm_core` for
 //! worlds and their scripts, and on `rvm_arguments`. It must not know files, processes or the terminal.
 //!
-//! To be read in this order: `guest`, `refused`, `flush`, `output_buffer`, `fault`, `run`, `latest_traps`, `trace`,
+//! To be read in this order: `guest`, `refused`, `flush`, `output_buffer`, `fault`, `run`, `trace`, `latest_traps`,
 //! `watched`, `run_command`, `asm_command`, `dis_command`, `debug_command`; `extended_command`, `extended_line`,
 //! `extended_answers`, `extended_lines`, `extended_script`, `extended_debug_command`; `script_refused`, `first_world`,
 //! `script_command`.

@@ -24,7 +24,8 @@
 
 ghost use Rattle.std.specs.Prelude.{◌≡◌, ◌<◌, length, OnOk};
 ghost use Rattle.std.specs.Io.KnownBytes.{Appends};
-ghost use Rattle.rvm_command.specs.Trace.{before_of, destination, instruction_text, line_of, outcome_text, register_text, registers_of, shown, stored_by, stored_conditional, stored_part, turn_text, word_at, writes_of, writes_of_word, written_text};
+ghost use Rattle.rvm_command.specs.WordAt.{word_at};
+ghost use Rattle.rvm_command.specs.Trace.{before_of, destination, instruction_text, line_of, outcome_text, register_text, registers_of, shown, stored_by, stored_conditional, stored_part, turn_text, writes_of, writes_of_word, written_text};
 ghost use Rattle.rvm_command.specs.TraceLaw.{ShowsTheRegister};
 
 use rvm_board::{BoardEvent, BoardReply, Debugged};
@@ -178,7 +179,7 @@ fn registers_of<M: Memory>(guest: &mut Debugged<M>, hart: u32) -> [u32; 33]
 }
 
 /// The word of RAM at an address, if that is a multiple of four in RAM.
-fn word_at<M: Memory>(guest: &mut Debugged<M>, address: u32) -> Option<u32>
+pub(crate) fn word_at<M: Memory>(guest: &mut Debugged<M>, address: u32) -> Option<u32>
     ensures word { result ≡ word_at address guest.old.guest }
     ensures guest { guest.new ≡ guest.old }
 {
