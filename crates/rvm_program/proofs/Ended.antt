@@ -12,6 +12,7 @@ use Rattle.rvm_arguments.specs.declared.arguments.MoveArguments.{MoveArguments}
 use Rattle.rvm_arguments.specs.declared.arguments.RunArguments.{RunArguments}
 use Rattle.rvm_arguments.specs.declared.arguments.ScriptArguments.{ScriptArguments}
 use Rattle.rvm_arguments.specs.declared.arguments.StatusOf.{StatusOf}
+use Rattle.rvm_arguments.specs.declared.arguments.TraceArguments.{TraceArguments}
 use Rattle.rvm_command.specs.declared.refused.Refused.{Refused}
 use Rattle.rvm_command.specs.declared.run.Ended.{Ended}
 use Rattle.rvm_command.specs.Command.{end_text, image_of, refused_text}
@@ -83,16 +84,48 @@ ended_so : (asked : StatusOf) (status : ℕ) (errors : Written) (P Q : Result En
 ended_so asked status errors P Q f (inl (e, is, end, told)) = inl (e, is, f (Ok e) end, told)
 ended_so asked status errors P Q f (inr (r, is, end, told)) = inr (r, is, f (Err r) end, told)
 
--- a run whose end is told wrote to this file of its trace, if it has one
-pub run_told : {F : Type 0} (created : Named) (a : RunArguments) (image input : List ℕ) (output errors trace : Written)
-    (r : Result ℕ F) → IsTraceFile created a.trace trace.before
-    → IfOk r (λ status. RunHasStatus a.status status
-    (λ end. IsRunEnd a image input end output.before output.after trace.before trace.after) errors.before errors.after)
-    → IfOk r (λ status. RunHasStatus a.status status (λ end. HasRunTo created a image input end output)
-    errors.before errors.after)
-run_told created a image input output errors trace (Err e) trace_is told = tt
-run_told created a image input output errors trace (Ok status) trace_is told =
-    ended_so a.status status errors _ _ (λ end is. record { trace = trace; trace_is = trace_is; ended = is }) told
+-- a run without a trace may have any writer
+pub no_trace : (created : Named) (trace : Option TraceArguments) (held : Option (List ℕ)) → trace ≡ None
+    → IsTraceFile created trace held
+no_trace created trace held none = subst (λ t. IsTraceFile created t held) (sym none) tt
+
+-- a buffer that holds nothing in front of the file of a trace
+pub file_of_trace : (created : Named) (trace : Option TraceArguments) (t : TraceArguments) (file held : Option (List ℕ))
+    → trace ≡ Some t → IsCreated (created t.file.now) file → held ≡ file → IsTraceFile created trace held
+file_of_trace created trace t file held some made same =
+    subst (λ o. IsTraceFile created o held) (sym some) (subst (IsCreated (created t.file.now)) (sym same) made)
+
+module _ (created : Named) (a : RunArguments) (image input : List ℕ) (output trace : Written)
+    (trace_is : IsTraceFile created a.trace trace.before) where
+  -- a run that wrote to this file of its trace, if it has one
+  ends_in : (end : Result Ended Refused)
+      → IsRunEnd a image input end output.before output.after trace.before trace.after
+      → HasRunTo created a image input end output
+  ends_in end is = record { trace = trace; trace_is = trace_is; ended = is }
+
+  -- the same of its end
+  pub end_traced : (end : Result Ended Refused)
+      × IsRunEnd a image input end output.before output.after trace.before trace.after
+      → (end : Result Ended Refused) × HasRunTo created a image input end output
+  end_traced end = (end.0, ends_in end.0 end.1)
+
+  -- the same of its status
+  pub status_traced : {F : Type 0} (errors : Written) (r : Result ℕ F)
+      → IfOk r (λ status. RunHasStatus a.status status
+      (λ end. IsRunEnd a image input end output.before output.after trace.before trace.after)
+      errors.before errors.after)
+      → IfOk r (λ status. RunHasStatus a.status status (λ end. HasRunTo created a image input end output)
+      errors.before errors.after)
+  status_traced errors (Err e) told = tt
+  status_traced errors (Ok status) told =
+      ended_so a.status status errors
+      (λ end. IsRunEnd a image input end output.before output.after trace.before trace.after)
+      (λ end. HasRunTo created a image input end output) ends_in told
+
+-- what a call returned, if it began, has whatever follows from what it has
+pub begun_so : {T E : Type 0} (r : Result T E) (P Q : T → Type 0) → ((t : T) → P t → Q t) → IfOk r P → IfOk r Q
+begun_so (Ok t) P Q f is = f t is
+begun_so (Err e) P Q f is = tt
 
 module _ {F : Type 0} (files : Named) (errors : Written) where
   -- `run` was given the image of its file, and of its input the bytes that its turns can take
@@ -108,7 +141,8 @@ module _ {F : Type 0} (files : Named) (errors : Written) where
         input = whole.0;
         image_is = subst (IsFile (files a.guest.image.now)) (sym same) is;
         input_is = whole.1;
-        ended = ended_so a.status status errors _ _
+        ended = ended_so a.status status errors (λ end. HasRunTo created a image begun end output)
+            (λ end. HasRunTo created a image whole.0 end output)
             (λ end. ends_with created a image begun given whole.0 output end begun_same whole.2) ended;
       }
 
