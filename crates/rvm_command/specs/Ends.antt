@@ -1,5 +1,5 @@
 -- How each command ends, what it wrote to its output until then, and the status that it returns.
-use Rattle.std.specs.Prelude.{◌≡◌, ◌⊎◌, ℕ, zero, suc, ◌+◌, ◌*◌, ◌^◌, ◌<◌, ◌≤◌, ◌==◌, true, false, List, ◌++◌, Option, Some, None, Result, Ok, Err, IfOk, IfSome, IsOk, length, take, codes, count_by}
+use Rattle.std.specs.Prelude.{◌≡◌, ◌⊎◌, ℕ, zero, suc, ◌+◌, ◌*◌, ◌^◌, ◌<◌, ◌≤◌, ◌==◌, Bool, true, false, List, ◌++◌, Option, Some, None, Result, Ok, Err, IfOk, IfSome, IsOk, length, take, codes, count_by}
 use Rattle.std.specs.Str.{IsUtf8, IsValidUpTo}
 use Rattle.std.specs.Io.KnownBytes.{Appends, Keeps}
 use Rattle.std.specs.List.{concat}
@@ -17,7 +17,7 @@ use Rattle.rvm_debug.specs.declared.script.ScriptError.TheVariants as script
 use Rattle.rvm_debug.specs.Script.{Answers, script_of}
 use Rattle.rvm_debug.specs.Words.{lines}
 use Rattle.rvm_refusal.specs.declared.refusal.Refusal.TheVariants.{OutOfMemory, OutsideRam, BadToken, LinkFault}
-use Rattle.rvm_arguments.specs.declared.arguments.GuestArguments.{GuestArguments}
+use Rattle.rvm_arguments.specs.declared.arguments.DebugArguments.{DebugArguments}
 use Rattle.rvm_arguments.specs.declared.arguments.RunArguments.{RunArguments}
 use Rattle.rvm_arguments.specs.declared.arguments.StatusOf.{StatusOf}
 use Rattle.rvm_arguments.specs.declared.arguments.TraceArguments.{TraceArguments}
@@ -28,6 +28,7 @@ use Rattle.rvm_command.specs.declared.run.Ended.TheVariants as ended
 use Rattle.rvm_command.specs.declared.run.Ended.TheVariants.{HaltedWith, StepsSpent}
 use Rattle.rvm_command.specs.Assembled.{IsFileOf}
 use Rattle.rvm_command.specs.Command.{FileImage, end_text, guest_of, image_of, listing, run_of}
+use Rattle.rvm_command.specs.ExtendedRuns.{session_told}
 use Rattle.rvm_command.specs.Watched.{Watched}
 use Rattle.rvm_command.specs.Refusals.{IsTold, refused, refused_at, refused_of_text, refused_of_script}
 use Rattle.rvm_elf.specs.Refusals.{refusal_of_file, refusal_of_image}
@@ -95,19 +96,31 @@ abbrev pub IsScriptEndOf : Option (List ℕ) → Guest → Result (Unit {0}) Scr
 IsScriptEndOf remaining guest result before after =
     IfSome remaining (λ s. IsScriptEnd s (script_of (lines s) 1 guest) result before after)
 
--- the script of a debugged guest was answered to its end, or was refused: before its first line, or after it began
-abbrev pub IsDebugEnd : GuestArguments → (file : List ℕ) → (script : Option (List ℕ))
+-- the extended session that a reader gives, if that is known, ended for this guest as a script does
+abbrev pub IsExtendedEndOf : Option (List ℕ) → Guest → Result (Unit {0}) ScriptError
+    → (before after : Option (List ℕ)) → Type 0
+IsExtendedEndOf remaining guest result before after =
+    IfSome remaining (λ s. IsScriptEnd s (session_told (lines s) guest) result before after)
+
+-- the extended session, or else the script, that a reader gives ended so for this guest
+abbrev pub IsSessionEndOf : (extended : Bool) → Option (List ℕ) → Guest → Result (Unit {0}) ScriptError
+    → (before after : Option (List ℕ)) → Type 0
+IsSessionEndOf true remaining guest result before after = IsExtendedEndOf remaining guest result before after
+IsSessionEndOf false remaining guest result before after = IsScriptEndOf remaining guest result before after
+
+-- the session of a debugged guest was answered to its end, or was refused: before its first line, or after it began
+abbrev pub IsDebugEnd : DebugArguments → (file : List ℕ) → (session : Option (List ℕ))
     → Result (Unit {0}) Refused → (before after : Option (List ℕ)) → Type 0
-IsDebugEnd a file script (Ok done) before after =
-    IsLoadable (image_of a.raw file) a.pages
-    × IfOk (image_of a.raw file) (λ i.
-    IsScriptEndOf script (guest_of a.harts a.pages i.0 i.1) (Ok done) before after)
-IsDebugEnd a file script (Err r) before after =
-    (IsLoadRefusal (image_of a.raw file) a.pages r × (after ≡ before))
-    ⊎ (IsLoadable (image_of a.raw file) a.pages
+IsDebugEnd a file session (Ok done) before after =
+    IsLoadable (image_of a.guest.raw file) a.guest.pages
+    × IfOk (image_of a.guest.raw file) (λ i.
+    IsSessionEndOf a.extended session (guest_of a.guest.harts a.guest.pages i.0 i.1) (Ok done) before after)
+IsDebugEnd a file session (Err r) before after =
+    (IsLoadRefusal (image_of a.guest.raw file) a.guest.pages r × (after ≡ before))
+    ⊎ (IsLoadable (image_of a.guest.raw file) a.guest.pages
     × ((e : ScriptError) × (r ≡ refused_of_script e)
-    × IfOk (image_of a.raw file) (λ i.
-    IsScriptEndOf script (guest_of a.harts a.pages i.0 i.1) (Err e) before after)))
+    × IfOk (image_of a.guest.raw file) (λ i.
+    IsSessionEndOf a.extended session (guest_of a.guest.harts a.guest.pages i.0 i.1) (Err e) before after)))
 
 -- the line, counted from 1, in which the byte with this index stands
 abbrev pub line_of_byte : (index : ℕ) → List ℕ → ℕ

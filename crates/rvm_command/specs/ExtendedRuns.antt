@@ -1,11 +1,11 @@
 -- How an extended session ended, and what stands then.
-use Rattle.std.specs.Prelude.{◌≡◌, ◌⊎◌, ℕ, List, [], ◌∷◌, ◌++◌, Option, Some, None, Result, Ok, Err}
+use Rattle.std.specs.Prelude.{◌≡◌, ◌⊎◌, ℕ, Bool, true, false, List, [], ◌∷◌, ◌++◌, Option, Some, None, Result, Ok, Err}
 use Rattle.std.specs.Io.KnownBytes.{Appends}
 use Rattle.rvm_mem.specs.Pages.{mark_all}
 use Rattle.rvm_board.specs.Guest.{Guest, GuestState}
 use Rattle.rvm_debug.specs.declared.script.ScriptError.{ScriptError}
 use Rattle.rvm_debug.specs.declared.script.ScriptError.TheVariants.{OutOfMemory, TooLong, BadToken, LinkFault}
-use Rattle.rvm_debug.specs.Runs.{HasAnswer, Leaves}
+use Rattle.rvm_debug.specs.Runs.{HasAnswer, IsRun, Leaves}
 use Rattle.rvm_debug.specs.Script.{Answers}
 use Rattle.rvm_command.specs.declared.extended_line.ExtendedLine.{ExtendedLine}
 use Rattle.rvm_command.specs.declared.extended_line.ExtendedLine.TheVariants.{Plain}
@@ -52,6 +52,12 @@ IsSession (Err (BadToken n)) lines old new before after =
 IsSession (Err OutOfMemory) lines old new before after = (new ≡ old) × (after ≡ before)
 IsSession (Err TooLong) lines old new before after = (new ≡ old) × (after ≡ before)
 IsSession (Err LinkFault) lines old new before after = IsPartWay lines old new
+
+-- the lines of an extended session, or else of a script, were done so
+abbrev pub IsRunOf : (extended : Bool) → Result (Unit {0}) ScriptError → (lines : List (List ℕ))
+    → (old new : GuestState) → (before after : Option (List ℕ)) → Type 0
+IsRunOf true result lines old new before after = IsSession result lines old new before after
+IsRunOf false result lines old new before after = IsRun result lines old new before after
 
 -- a line was done after t turns, even if its answer was not written; or it is not in the grammar, and nothing was done
 abbrev pub IsLineOf : Result ℕ ScriptError → (number t : ℕ) → Option ExtendedLine

@@ -20,5 +20,4 @@ pub mod ExtendedLines
 pub mod ExtendedAnswers
 pub mod ExtendedScript
 pub mod ExtendedRuns
-pub mod ExtendedEnds
 pub mod TraceLaw

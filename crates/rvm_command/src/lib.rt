@@ -7,9 +7,8 @@
 //! worlds and their scripts, and on `rvm_arguments`. It must not know files, processes or the terminal.
 //!
 //! To be read in this order: `guest`, `refused`, `flush`, `output_buffer`, `fault`, `run`, `trace`, `latest_traps`,
-//! `watched`, `run_command`, `asm_command`, `dis_command`, `debug_command`; `extended_command`, `extended_line`,
-//! `extended_answers`, `extended_lines`, `extended_script`, `extended_debug_command`; `script_refused`, `first_world`,
-//! `script_command`.
+//! `watched`, `run_command`, `asm_command`, `dis_command`; `extended_command`, `extended_line`, `extended_answers`,
+//! `extended_lines`, `extended_script`, `debug_command`; `script_refused`, `first_world`, `script_command`; `laws`.
 #![tactic(auto)]
 
 pub mod asm_command;
@@ -17,7 +16,6 @@ pub mod debug_command;
 pub mod dis_command;
 mod extended_answers;
 mod extended_command;
-pub mod extended_debug_command;
 mod extended_line;
 mod extended_lines;
 mod extended_script;
@@ -26,6 +24,7 @@ mod first_world;
 pub mod flush;
 pub mod guest;
 mod latest_traps;
+pub mod laws;
 mod output_buffer;
 pub mod refused;
 pub mod run;

@@ -26,7 +26,6 @@ ghost use Rattle.std.specs.Prelude.{◌≡◌, ◌<◌, length, OnOk};
 ghost use Rattle.std.specs.Io.KnownBytes.{Appends};
 ghost use Rattle.rvm_command.specs.WordAt.{word_at};
 ghost use Rattle.rvm_command.specs.Trace.{before_of, destination, instruction_text, line_of, outcome_text, register_text, registers_of, shown, stored_by, stored_conditional, stored_part, turn_text, writes_of, writes_of_word, written_text};
-ghost use Rattle.rvm_command.specs.TraceLaw.{ShowsTheRegister};
 
 use rvm_board::{BoardEvent, BoardReply, Debugged};
 use rvm_debug::InWords;
@@ -502,8 +501,3 @@ fn write_stored<W: Write>(stored: Option<Stored>, writer: &mut W) -> Result<(), 
         None => Ok(()),
     }
 }
-
-/// A step whose instruction retires changes no register but the one that its line shows.
-pub(crate) fn a_line_shows_the_register_that_changes()
-    ensures { ShowsTheRegister }
-{}

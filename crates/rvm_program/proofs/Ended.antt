@@ -16,11 +16,11 @@ use Rattle.rvm_arguments.specs.declared.arguments.TraceArguments.{TraceArguments
 use Rattle.rvm_command.specs.declared.refused.Refused.{Refused}
 use Rattle.rvm_command.specs.declared.run.Ended.{Ended}
 use Rattle.rvm_command.specs.Command.{end_text, image_of, refused_text}
-use Rattle.rvm_command.specs.Ends.{HasStatus, IsAsmEnd, IsListEnd, IsRunEnd, RunHasStatus, run_status}
+use Rattle.rvm_command.specs.Ends.{HasStatus, IsAsmEnd, IsDebugEnd, IsListEnd, IsRunEnd, RunHasStatus, run_status}
 use Rattle.rvm_host_command.specs.Hosted.{IsHostedTo}
 use Rattle.rvm_move.specs.Ended.{IsMoved, IsNotMoved, IsUntold}
 use Rattle.rvm_move.specs.Orders.{IsAudited, IsNotAudited}
-use Rattle.rvm_program.specs.Ended.{AsmEnded, AuditEnded, DebugEnded, DisEnded, HasHosted, HasRunTo, HostEnded, IsSessionEnd, IsTraceFile, MoveEnded, RunEnded, ScriptEnded, TellEnded, ToTell, Written}
+use Rattle.rvm_program.specs.Ended.{AsmEnded, AuditEnded, DebugEnded, DisEnded, HasHosted, HasRunTo, HostEnded, IsTraceFile, MoveEnded, RunEnded, ScriptEnded, TellEnded, ToTell, Written}
 use Rattle.rvm_command.proofs.Inputs.{ends_so}
 use Rattle.rvm_program.specs.Files.{IsApart, IsCreated, IsFile, IsFirst, IsFirstInput, IsImage, IsInput, IsOpened, Named}
 use Rattle.rvm_command.specs.ScriptEnds.{IsScriptEnd}
@@ -181,7 +181,7 @@ module _ {F : Type 0} (files : Named) (errors : Written) where
       -- and so `debug`
       pub debug_ended : (a : DebugArguments) (script : Option (List ℕ)) (r : Result ℕ F)
           → IsFile (files a.guest.image.now) bytes
-          → IfOk r (λ status. HasStatus status (λ end. IsSessionEnd a.extended a.guest image script end held told)
+          → IfOk r (λ status. HasStatus status (λ end. IsDebugEnd a image script end held told)
           errors.before errors.after)
           → IfOk r (λ status. DebugEnded files a status script output errors)
       debug_ended a script (Err e) is ended = tt
@@ -189,7 +189,7 @@ module _ {F : Type 0} (files : Named) (errors : Written) where
         image = image;
         told = told;
         image_is = subst (IsFile (files a.guest.image.now)) (sym same) is;
-        ended = subst (λ before. HasStatus status (λ end. IsSessionEnd a.extended a.guest image script end before told)
+        ended = subst (λ before. HasStatus status (λ end. IsDebugEnd a image script end before told)
             errors.before errors.after) begun ended;
       }
 
@@ -315,12 +315,12 @@ module _ {F : Type 0} (files : Named) where
           )
 
       pub debug_untold : (a : DebugArguments) (script : Option (List ℕ)) (r : Result ℕ F) → IsFile (files a.guest.image.now) bytes
-          → (end : Result (Unit {0}) Refused) × IsSessionEnd a.extended a.guest image script end held told
+          → (end : Result (Unit {0}) Refused) × IsDebugEnd a image script end held told
           → OnErr r (ToTell (λ status errors. DebugEnded files a status script output errors))
       debug_untold a script (Ok s) is end = tt
       debug_untold a script (Err e) is end =
-          let t = to_tell (λ e. IsSessionEnd a.extended a.guest image script e output told)
-          (subst (λ before. (end : Result (Unit {0}) Refused) × IsSessionEnd a.extended a.guest image script end before told) begun end) in (
+          let t = to_tell (λ e. IsDebugEnd a image script e output told)
+          (subst (λ before. (end : Result (Unit {0}) Refused) × IsDebugEnd a image script end before told) begun end) in (
             t.0,
             t.1,
             record {

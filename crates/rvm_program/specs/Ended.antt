@@ -1,11 +1,10 @@
 -- How a command ended, given the files that it names.
-use Rattle.std.specs.Prelude.{◌≡◌, ◌⊎◌, ⊤, ℕ, zero, suc, Bool, true, false, List, [], Option, None, Some, Result}
+use Rattle.std.specs.Prelude.{◌≡◌, ◌⊎◌, ⊤, ℕ, zero, suc, true, List, [], Option, None, Some, Result}
 use Rattle.rvm_arguments.specs.declared.arguments.Arguments.{Arguments}
 use Rattle.rvm_arguments.specs.declared.arguments.Arguments.TheVariants.{Run, Asm, Dis, Debug, Script, Move, Audit, Host, Tell}
 use Rattle.rvm_arguments.specs.declared.arguments.AsmArguments.{AsmArguments}
 use Rattle.rvm_arguments.specs.declared.arguments.DebugArguments.{DebugArguments}
 use Rattle.rvm_arguments.specs.declared.arguments.DisArguments.{DisArguments}
-use Rattle.rvm_arguments.specs.declared.arguments.GuestArguments.{GuestArguments}
 use Rattle.rvm_arguments.specs.declared.arguments.HostArguments.{HostArguments}
 use Rattle.rvm_arguments.specs.declared.arguments.MoveArguments.{MoveArguments}
 use Rattle.rvm_arguments.specs.declared.arguments.RunArguments.{RunArguments}
@@ -14,7 +13,6 @@ use Rattle.rvm_arguments.specs.declared.arguments.TraceArguments.{TraceArguments
 use Rattle.rvm_command.specs.Command.{image_of}
 use Rattle.rvm_command.specs.declared.refused.Refused.{Refused}
 use Rattle.rvm_command.specs.declared.run.Ended.{Ended}
-use Rattle.rvm_command.specs.ExtendedEnds.{IsExtendedEnd}
 use Rattle.rvm_command.specs.Ends.{HasStatus, IsAsmEnd, IsDebugEnd, IsListEnd, IsRunEnd, RunHasStatus}
 use Rattle.rvm_command.specs.Refusals.{IsTold, refused}
 use Rattle.rvm_host_command.specs.Hosted.{IsHostedTo}
@@ -71,20 +69,13 @@ pub record DisEnded (files : Named) (a : DisArguments) (status : ℕ) (output : 
   pub image_is : IsFile (files a.image.now) image
   pub ended : HasStatus status (λ end. IsListEnd (image_of a.raw image) end output told) errors.before errors.after
 
--- how an extended session of a debugged guest ended, or a script
-abbrev pub IsSessionEnd : (extended : Bool) → GuestArguments → (image : List ℕ) → (session : Option (List ℕ))
-    → Result (Unit {0}) Refused → (before after : Option (List ℕ)) → Type 0
-IsSessionEnd true a image session end before after = IsExtendedEnd a image session end before after
-IsSessionEnd false a image script end before after = IsDebugEnd a image script end before after
-
 -- `debug` was given the image that it names and a script, and wrote to a buffer in front of the output
 pub record DebugEnded (files : Named) (a : DebugArguments) (status : ℕ) (script output : Option (List ℕ))
     (errors : Written) : Type 0 where
   pub image : List ℕ
   pub told : Option (List ℕ)
   pub image_is : IsFile (files a.guest.image.now) image
-  pub ended : HasStatus status (λ end. IsSessionEnd a.extended a.guest image script end output told)
-      errors.before errors.after
+  pub ended : HasStatus status (λ end. IsDebugEnd a image script end output told) errors.before errors.after
 
 -- `script` was given the image and the script that it names, and wrote to a buffer in front of the output
 pub record ScriptEnded (files : Named) (a : ScriptArguments) (status : ℕ) (output : Option (List ℕ)) (errors : Written)

@@ -9,8 +9,8 @@ ghost use Rattle.rvm_refusal.specs.declared.refusal.Refusal.TheVariants as refus
 ghost use Rattle.std.specs.Io.Buffered.{writer_contents};
 ghost use Rattle.rvm_command.specs.declared.refused.Refused.{Refused};
 ghost use Rattle.rvm_command.specs.declared.run.Ended.{Ended};
-ghost use Rattle.rvm_command.specs.Ends.{HasStatus, RunHasStatus};
-ghost use Rattle.rvm_program.specs.Ended.{AsmEnded, AuditEnded, DebugEnded, DisEnded, HasRunTo, HostEnded, IsSessionEnd, MoveEnded, RunEnded, ScriptEnded, TellEnded, ToTell, written};
+ghost use Rattle.rvm_command.specs.Ends.{RunHasStatus};
+ghost use Rattle.rvm_program.specs.Ended.{AsmEnded, AuditEnded, DebugEnded, DisEnded, HasRunTo, HostEnded, MoveEnded, RunEnded, ScriptEnded, TellEnded, ToTell, written};
 ghost use Rattle.rvm_program.specs.Files.{IsFile, IsFileRefusal, IsFirst, IsFirstInput, IsImage, IsLong, IsLongInput, IsUnread, max_size};
 
 use crate::files::{MAX_FILE_SIZE, NamedFiles, keep_apart, read_beginning, read_whole, refusal_of};
@@ -24,7 +24,6 @@ use rvm_cell::{InputQueue, read_input as read_console_input};
 use rvm_command::asm_command::asm_command;
 use rvm_command::debug_command::debug_command;
 use rvm_command::dis_command::dis_command;
-use rvm_command::extended_debug_command::extended_debug_command;
 use rvm_command::run_command::run_command;
 use rvm_command::script_command::script_command;
 use rvm_host_command::host_command::{HostBytes, host_command};
@@ -201,32 +200,7 @@ pub(crate) fn debug<M: PagedMemory + Drop, F: NamedFiles, I: Read, O: Write, E: 
 {
     let image = read_image(files, alloc, &arguments.guest)?;
     let mut output = buffered(alloc, output)?;
-    Ok(answer_session::<M, _, _, E>(alloc, arguments, &image, input, &mut output, errors))
-}
-
-/// Answers an extended session, if one is asked for, or else a script.
-fn answer_session<M: PagedMemory + Drop, I: Read, O: Write + Drop, E: Write>(
-    alloc: Global,
-    arguments: &DebugArguments,
-    image: &[u8],
-    input: &mut I,
-    output: &mut BufWriter<O>,
-    errors: &mut E,
-) -> Told
-    ensures status { IfOk result (λ status. HasStatus status
-        (λ end. IsSessionEnd arguments.now.extended arguments.now.guest image.now (I.remaining input.old) end
-        (writer_contents O.contents output.old) (writer_contents O.contents output.new))
-        (E.contents errors.old) (E.contents errors.new)) }
-    ensures output { (end : Result (Unit {0}) Refused)
-        × IsSessionEnd arguments.now.extended arguments.now.guest image.now (I.remaining input.old) end
-        (writer_contents O.contents output.old) (writer_contents O.contents output.new) }
-{
-    let guest = &arguments.guest;
-    if arguments.extended {
-        extended_debug_command::<M, _, _, E>(alloc, guest, image, input, output, errors)
-    } else {
-        debug_command::<M, _, _, E>(alloc, guest, image, input, output, errors)
-    }
+    Ok(debug_command::<M, _, _, E>(alloc, arguments, &image, input, &mut output, errors))
 }
 
 /// Reads the image, opens the script, and answers it.

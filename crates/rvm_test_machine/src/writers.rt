@@ -1,6 +1,6 @@
 //! The commands when a write fails.
 
-use rvm_arguments::{GuestArguments, RunArguments, StatusOf};
+use rvm_arguments::{DebugArguments, GuestArguments, RunArguments, StatusOf};
 use rvm_command::asm_command::asm_command;
 use rvm_command::debug_command::debug_command;
 use rvm_command::run_command::run_command;
@@ -212,7 +212,10 @@ fn a_failed_write_of_an_answer_is_told(rt: HostRuntime) -> Result<(), Fail> {
         let mut reader = "regs 0\n".as_bytes();
         let status = debug_command::<PagedRam, _, _, _>(
             alloc,
-            &guest(),
+            &DebugArguments {
+                guest: guest(),
+                extended: false,
+            },
             &image,
             &mut reader,
             &mut output,
