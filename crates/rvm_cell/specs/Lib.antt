@@ -1,5 +1,6 @@
 pub mod Events
 pub mod Asked
+pub mod Logs
 pub mod Halts
 pub mod Workers
 pub mod Ends

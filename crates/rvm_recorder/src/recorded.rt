@@ -62,12 +62,33 @@ impl<M: PagedMemory + Drop> Recorded<M> {
         if capacity == 0 || capacity > MAX_CAPACITY {
             return Err((BadSize, host));
         }
+        Ok(Recorded::opened(alloc, host, capacity))
+    }
+
+    /// Makes a recorded host with an empty journal that takes as many entries as can be counted, 4294967295: for the
+    /// events of a journal that is read, of which there are as many as there are.
+    pub fn uncapped(alloc: Global, host: Host<M>) -> Recorded<M>
+        ensures { result ≡ record {
+          journal = record { opening = host; entries = []; reserved = 0 };
+          capacity = 4294967295;
+        } }
+    {
+        Recorded::opened(alloc, host, u32::MAX)
+    }
+
+    /// Makes a recorded host with an empty journal that takes at most `capacity` entries.
+    fn opened(alloc: Global, host: Host<M>, capacity: u32) -> Recorded<M>
+        ensures { result ≡ record {
+          journal = record { opening = host; entries = []; reserved = 0 };
+          capacity = capacity;
+        } }
+    {
         let journal = Journal::new(alloc, &host);
-        Ok(Recorded {
+        Recorded {
             host,
             journal,
             capacity,
-        })
+        }
     }
 
     /// Returns the journal of what the host answered until now.

@@ -1,0 +1,24 @@
+-- What is kept of the events that happen at a host.
+use Rattle.std.specs.List.{fold}
+use Rattle.std.specs.Prelude.{◌≡◌, ⊤, ℕ, zero, suc, ◌+◌, ◌%◌, List, [], ◌∷◌, ◌++◌, map, Option, None, Some}
+use Rattle.rvm_host.specs.Hosts.{PlainHost, host_of}
+use Rattle.rvm_message.specs.declared.event.HostEvent.{HostEvent}
+use Rattle.rvm_message.specs.Events.{event_of}
+use Rattle.rvm_message.specs.Exchanges.{step_of_hart}
+use Rattle.rvm_cell.specs.Events.{next_at}
+
+-- these events were kept after those before them; once not all were kept, it stays so
+abbrev pub KeepsOn : (old new : Option (List HostEvent)) → List HostEvent → Type 0
+KeepsOn None new events = new ≡ None
+KeepsOn (Some old) None events = ⊤
+KeepsOn (Some old) (Some new) events = new ≡ old ++ events
+
+-- the events of n turns of this many harts, one after the other, from turn `turn` on
+unfoldable pub steps_from : (turn harts n : ℕ) → List HostEvent
+steps_from turn harts zero = []
+steps_from turn harts (suc n) = step_of_hart (turn % harts) ∷ steps_from (turn + 1) harts n
+
+-- the events that were kept lead from the opening host to this one, if all were kept
+abbrev pub IsTold : Option (List HostEvent) → (opening h : PlainHost) → Type 0
+IsTold None o h = ⊤
+IsTold (Some events) o h = host_of h ≡ fold (next_at o) (host_of o) (map event_of events)
