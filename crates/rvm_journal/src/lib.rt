@@ -1,0 +1,22 @@
+//! Journals of hosts in files: a line for each event of a host, or for a run of turns, chained by SHA-256. What a writer
+//! wrote tells a reader the events of the host, in their order.
+//!
+//! Stands on `rvm_core` for the lines of commands, on `rvm_frame` for frames, on `rvm_cell` for the log of a host, and on
+//! `sha2` and `hex`. It must not know files, processes or threads.
+//!
+//! To be read in this order: `run`, `noted`, `digest`, `texts`, `header`, `open`, `writer`.
+#![tactic(auto)]
+
+mod digest;
+mod header;
+mod noted;
+mod open;
+mod run;
+mod texts;
+mod writer;
+
+pub use digest::LineDigest;
+pub use header::{Header, Image};
+pub use noted::Noted;
+pub use run::Run;
+pub use writer::JournalWriter;

@@ -1,0 +1,92 @@
+//! Writes the journal of a host while the host runs.
+
+ghost use Rattle.std.specs.Prelude.{◌≡◌, ◌⊎◌, None, Some, [], IfOk};
+ghost use Rattle.rvm_cell.specs.Logs.{IsTold};
+
+use crate::header::{Header, header_text};
+use crate::open::Open;
+use rvm_cell::EventLog;
+use rvm_frame::Frame;
+use rvm_message::Command;
+use rvm_refusal::LinkFault;
+use std::alloc::Global;
+use std::io::Write;
+use std::marker::Model;
+
+/// Writes the journal of a host, line by line: each event is handed to the system when it is kept, but for turns, which
+/// share a line with the turns before and after them. If a line cannot be written, or memory runs out, the journal ends
+/// with the line before it, and nothing is kept from then on.
+#[derive(Drop)]
+pub struct JournalWriter<W: Write + Drop> {
+    open: Option<Open<W>>,
+}
+
+impl<W: Write + Drop> Model for JournalWriter<W> {
+    ghost use Rattle.std.specs.Prelude.{List, Option};
+    ghost use Rattle.std.specs.Option.{option_and_then};
+    ghost use Rattle.rvm_message.specs.declared.event.HostEvent.{HostEvent};
+    ghost use Rattle.rvm_journal.specs.Written.{kept_of};
+
+    ghost Value = { Option (List HostEvent) };
+
+    ghost view = { λ j. option_and_then kept_of j.open };
+}
+
+impl<W: Write + Drop> JournalWriter<W> {
+    /// Begins a journal with this header in an empty file. Fails if the header cannot be written, or memory runs out.
+    pub fn new(alloc: Global, writer: W, header: &Header) -> Result<JournalWriter<W>, LinkFault>
+        
+    {
+        let text = header_text(alloc, header)?;
+        let open = Open::begin(alloc, writer, header.hosts, header.host, &text)?;
+        Ok(JournalWriter { open: Some(open) })
+    }
+
+    /// Whether the journal ended before its host did: since a line could not be written, or memory ran out.
+    pub fn has_ended(&self) -> bool {
+        self.open.is_none()
+    }
+
+    /// Writes the turns that have no line yet, and ends the journal. `LinkFault` if they cannot be written, or if the
+    /// journal had ended.
+    pub fn finish(self) -> Result<(), LinkFault> {
+        match self.open {
+            Some(open) => {
+                let _flushed = open.flush()?;
+                Ok(())
+            }
+            None => Err(LinkFault),
+        }
+    }
+}
+
+impl<W: Write + Drop> EventLog for JournalWriter<W> {
+    ghost use Rattle.std.specs.Prelude.{List, Option};
+    ghost use Rattle.rvm_message.specs.declared.event.HostEvent.{HostEvent};
+
+    ghost kept = { λ j. j };
+
+    #[tactic(auto, using(crate::proofs::Keeping::keeps_on))]
+    fn command(&mut self, command: &Command) {
+        self.open = match self.open.take() {
+            Some(open) => open.command(command).ok(),
+            None => None,
+        };
+    }
+
+    #[tactic(auto, using(crate::proofs::Keeping::keeps_on))]
+    fn came(&mut self, from: u8, frame: &Frame) {
+        self.open = match self.open.take() {
+            Some(open) => open.came(from, frame).ok(),
+            None => None,
+        };
+    }
+
+    #[tactic(auto, using(crate::proofs::Keeping::keeps_on))]
+    fn turns(&mut self, turn: u64, harts: u32, count: u32) {
+        self.open = match self.open.take() {
+            Some(open) => open.turns(turn, harts, count).ok(),
+            None => None,
+        };
+    }
+}
