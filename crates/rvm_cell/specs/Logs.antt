@@ -7,6 +7,11 @@ use Rattle.rvm_message.specs.Events.{event_of}
 use Rattle.rvm_message.specs.Exchanges.{step_of_hart}
 use Rattle.rvm_cell.specs.Events.{next_at}
 
+-- nothing was kept yet, or it is not known what was
+abbrev pub IsEmpty : Option (List HostEvent) → Type 0
+IsEmpty None = ⊤
+IsEmpty (Some events) = events ≡ []
+
 -- these events were kept after those before them; once not all were kept, it stays so
 abbrev pub KeepsOn : (old new : Option (List HostEvent)) → List HostEvent → Type 0
 KeepsOn None new events = new ≡ None

@@ -1,5 +1,5 @@
 -- The file of a journal that is written, line by line.
-use Rattle.std.specs.Prelude.{◌≡◌, ⊤, ⊥, ℕ, ◌==◌, not, Bool, true, false, List, [], ◌∷◌, ◌++◌, Option, Some, None, codes, option_map}
+use Rattle.std.specs.Prelude.{◌≡◌, ⊤, ⊥, ℕ, ◌==◌, not, Bool, true, false, List, [], ◌∷◌, ◌++◌, length, Option, Some, None, codes, option_map}
 use Rattle.std.specs.Option.{option_and_then}
 use Rattle.std.specs.List.{list_all}
 use Rattle.std.specs.Io.KnownBytes.{Appends}
@@ -8,7 +8,7 @@ use Rattle.rvm_message.specs.declared.event.HostEvent.{HostEvent}
 use Rattle.rvm_journal.specs.declared.noted.Noted.TheVariants.{Turns}
 use Rattle.rvm_journal.specs.declared.run.Run.{Run}
 use Rattle.rvm_journal.specs.Noting.{events_of}
-use Rattle.rvm_journal.specs.Told.{Told, digest_after, line_of, told_in}
+use Rattle.rvm_journal.specs.Told.{Told, digest_after, line_of, mark, told_in}
 
 -- a byte ends no line
 abbrev pub is_no_feed : ℕ → Bool
@@ -17,7 +17,8 @@ is_no_feed b = not (b == 10)
 -- the line of a text, which comes without its line feed, was added after the line with digest `old`
 pub record Puts (old text new : List ℕ) (before after : Option (List ℕ)) : Type 0 where
   pub digest : new ≡ digest_after old (text ++ codes "\n")
-  pub one : list_all is_no_feed text ≡ true
+  pub size : length (mark new) ≡ 17
+  pub one : list_all is_no_feed (mark new ++ text) ≡ true
   pub added : Appends before after (line_of old (text ++ codes "\n"))
 
 -- events that are known, and these after them

@@ -1,8 +1,8 @@
 //! The file of a journal to which lines are added.
 
-ghost use Rattle.std.specs.Prelude.{◌≡◌, ◌++◌, ◌∷◌, [], None, Some, IfOk, IsTrue, OnOk, codes};
+ghost use Rattle.std.specs.Prelude.{◌≡◌, ◌++◌, ◌∷◌, [], None, Some, IfOk, OnOk, codes, length};
 ghost use Rattle.std.specs.List.{list_all};
-ghost use Rattle.rvm_cell.specs.Logs.{steps_from};
+ghost use Rattle.rvm_cell.specs.Logs.{IsEmpty, steps_from};
 ghost use Rattle.rvm_journal.specs.Noting.{events_of, noted_of};
 ghost use Rattle.rvm_journal.specs.Told.{mark};
 ghost use Rattle.rvm_journal.specs.Written.{Keeping, Puts, is_no_feed, kept_of, waiting, with_more};
@@ -66,7 +66,7 @@ impl<W: Write + Drop> Open<W> {
         host: u8,
         text: &[u8],
     ) -> Result<Open<W>, LinkFault>
-        ensures { IfOk result (λ open. kept_of open ≡ kept_of (record open { told = open.told }) ) }
+        ensures { IfOk result (λ open. IsEmpty (kept_of open)) }
     {
         let began = Snapshot::of(&writer);
         let digest = put(alloc, &mut writer, LineDigest::none(), text)?;
@@ -216,23 +216,25 @@ fn put<W: Write>(
     ensures { IfOk result (λ digest. Puts before.bytes text.now digest.bytes
         (W.contents writer.old) (W.contents writer.new)) }
 {
-    if !is_one_line(text) {
+    let digest = before.after(text);
+    let mut line = marked(alloc, digest, text)?;
+    if !is_one_line(&line) {
         return Err(LinkFault);
     }
-    let digest = before.after(text);
-    let line = line_of(alloc, digest, text)?;
+    line.write_all(b"\n")?;
     writer.write_all(&line)?;
     Ok(digest)
 }
 
-/// The line of a text, with its line feed.
-fn line_of(alloc: Global, digest: LineDigest, text: &[u8]) -> Result<Vec<u8>, LinkFault>
-    ensures { IfOk result (λ line. line.items ≡ mark digest.bytes ++ (text.now ++ codes "\n")) }
+/// The line of a text, without its line feed.
+fn marked(alloc: Global, digest: LineDigest, text: &[u8]) -> Result<Vec<u8>, LinkFault>
+    ensures line { IfOk result (λ line. line.items ≡ mark digest.bytes ++ text.now) }
+    ensures size { length (mark digest.bytes) ≡ 17 }
 {
+    let mark = digest.mark();
     let mut line = Vec::new(alloc);
-    line.write_all(&digest.mark())?;
+    line.write_all(&mark)?;
     line.write_all(text)?;
-    line.write_all(b"\n")?;
     Ok(line)
 }
 

@@ -1,7 +1,10 @@
 //! Writes the journal of a host while the host runs.
 
-ghost use Rattle.std.specs.Prelude.{◌≡◌, ◌⊎◌, None, Some, [], IfOk};
-ghost use Rattle.rvm_cell.specs.Logs.{IsTold};
+ghost use Rattle.std.specs.Prelude.{◌∷◌, [], IfOk};
+ghost use Rattle.std.specs.Option.{option_and_then};
+ghost use Rattle.rvm_cell.specs.Logs.{IsEmpty, KeepsOn, steps_from};
+ghost use Rattle.rvm_journal.specs.Written.{kept_of};
+ghost use Rattle.rvm_message.specs.declared.event.HostEvent.TheVariants.{Came, Do};
 
 use crate::header::{Header, header_text};
 use crate::open::Open;
@@ -35,7 +38,7 @@ impl<W: Write + Drop> Model for JournalWriter<W> {
 impl<W: Write + Drop> JournalWriter<W> {
     /// Begins a journal with this header in an empty file. Fails if the header cannot be written, or memory runs out.
     pub fn new(alloc: Global, writer: W, header: &Header) -> Result<JournalWriter<W>, LinkFault>
-        
+        ensures { IfOk result IsEmpty }
     {
         let text = header_text(alloc, header)?;
         let open = Open::begin(alloc, writer, header.hosts, header.host, &text)?;
@@ -66,27 +69,44 @@ impl<W: Write + Drop> EventLog for JournalWriter<W> {
 
     ghost kept = { λ j. j };
 
-    #[tactic(auto, using(crate::proofs::Keeping::keeps_on))]
     fn command(&mut self, command: &Command) {
-        self.open = match self.open.take() {
-            Some(open) => open.command(command).ok(),
-            None => None,
-        };
+        self.open = commanded(self.open.take(), command);
     }
 
-    #[tactic(auto, using(crate::proofs::Keeping::keeps_on))]
     fn came(&mut self, from: u8, frame: &Frame) {
-        self.open = match self.open.take() {
-            Some(open) => open.came(from, frame).ok(),
-            None => None,
-        };
+        self.open = heard(self.open.take(), from, frame);
     }
 
-    #[tactic(auto, using(crate::proofs::Keeping::keeps_on))]
     fn turns(&mut self, turn: u64, harts: u32, count: u32) {
-        self.open = match self.open.take() {
-            Some(open) => open.turns(turn, harts, count).ok(),
-            None => None,
-        };
+        self.open = turned(self.open.take(), turn, harts, count);
     }
+}
+
+/// A journal with the line of a command, unless it has ended, or ends since the line cannot be written.
+#[tactic(auto, using(crate::proofs::Keeping::keeps_on, crate::proofs::Keeping::lost))]
+fn commanded<W: Write + Drop>(open: Option<Open<W>>, command: &Command) -> Option<Open<W>>
+    ensures { KeepsOn (option_and_then kept_of open) (option_and_then kept_of result) (Do command.now ∷ []) }
+{
+    open?.command(command).ok()
+}
+
+/// A journal with the line of a frame that came, unless it has ended, or ends since the line cannot be written.
+#[tactic(auto, using(crate::proofs::Keeping::keeps_on, crate::proofs::Keeping::lost))]
+fn heard<W: Write + Drop>(open: Option<Open<W>>, from: u8, frame: &Frame) -> Option<Open<W>>
+    ensures { KeepsOn (option_and_then kept_of open) (option_and_then kept_of result) (Came from frame.now ∷ []) }
+{
+    open?.came(from, frame).ok()
+}
+
+/// A journal that keeps turns, unless it has ended, or ends since a line cannot be written.
+#[tactic(auto, using(crate::proofs::Keeping::keeps_on, crate::proofs::Keeping::lost))]
+fn turned<W: Write + Drop>(
+    open: Option<Open<W>>,
+    turn: u64,
+    harts: u32,
+    count: u32,
+) -> Option<Open<W>>
+    ensures { KeepsOn (option_and_then kept_of open) (option_and_then kept_of result) (steps_from turn harts count) }
+{
+    open?.turns(turn, harts, count).ok()
 }

@@ -1,0 +1,18 @@
+-- What is kept after one more event.
+use Rattle.std.proofs.Common.{◌≡◌, List, ◌++◌, Option, Some, None, refl, subst, sym}
+use Rattle.rvm_message.specs.declared.event.HostEvent.{HostEvent}
+use Rattle.rvm_cell.specs.Logs.{KeepsOn}
+use Rattle.rvm_journal.specs.Written.{with_more}
+
+more : (old : Option (List HostEvent)) (events : List HostEvent) → KeepsOn old (with_more old events) events
+more None events = refl
+more (Some old) events = refl
+
+pub keeps_on : (old new : Option (List HostEvent)) (events : List HostEvent) → new ≡ with_more old events
+    → KeepsOn old new events
+keeps_on old new events is = subst (λ o. KeepsOn old o events) (sym is) (more old events)
+
+-- nothing is known once not all was kept
+pub lost : (old : Option (List HostEvent)) (events : List HostEvent) → KeepsOn old None events
+lost None events = refl
+lost (Some old) events = tt

@@ -1,0 +1,4 @@
+pub mod Runs
+pub mod Lines
+pub mod Adding
+pub mod Keeping
