@@ -1,5 +1,5 @@
 -- A line is added to the file of a journal.
-use Rattle.std.proofs.Common.{◌≡◌, ◌∙◌, ⊤, ⊥, ℕ, Bool, true, false, cond, List, [], ◌∷◌, ◌++◌, length, take, drop, Option, Some, None, option_map, refl, sym, ap, subst, absurd, append_assoc, arith}
+use Rattle.std.proofs.Common.{◌≡◌, ◌∙◌, ℕ, Bool, true, false, cond, List, [], ◌∷◌, ◌++◌, length, take, drop, Option, Some, None, option_map, refl, sym, ap, subst, append_assoc, arith}
 use Rattle.std.specs.Option.{option_and_then}
 use Rattle.std.specs.Prelude.{codes}
 use Rattle.std.specs.List.{list_all}
@@ -12,7 +12,7 @@ use Rattle.rvm_message.specs.declared.event.HostEvent.{HostEvent}
 use Rattle.rvm_journal.specs.declared.noted.Noted.{Noted}
 use Rattle.rvm_journal.specs.Noting.{events_of, noted_of}
 use Rattle.rvm_journal.specs.Told.{Told, at_header, digest_after, digest_behind, line_of, mark, marked, no_digest, text_in, told_by, told_from, told_in, told_of}
-use Rattle.rvm_journal.specs.Written.{IsFile, IsWritten, Puts, is_empty, is_no_feed, told_at, with_more}
+use Rattle.rvm_journal.specs.Written.{IsFile, IsTelling, IsWritten, Puts, is_empty, is_no_feed, told_at, with_more}
 use Rattle.rvm_cell.specs.Logs.{IsEmpty}
 use Rattle.rvm_journal.proofs.Lines.{alone, no_lines, one_line}
 
@@ -74,7 +74,7 @@ same_bytes (x ∷ xs) = grind (arith, nat_tests, same_bytes xs)
 module _ (n h : ℕ) (noted : Noted) (d text e : List ℕ) (size : length (mark e) ≡ 17)
     (digest : e ≡ digest_after d (text ++ codes "\n")) where
   -- the line of this text
-  line : List ℕ
+  abbrev line : List ℕ
   line = mark e ++ text
 
   text_is : text_in line ≡ text
@@ -135,26 +135,38 @@ written n h noted d text e bytes after events is w p =
     (record { whole = whole_with bytes line p.one w.whole; told = told })
 
 -- the file after one more line
+telling : (n h : ℕ) (noted : Noted) (d text e : List ℕ) (empty : Bool) (before after : Option (List ℕ))
+    → noted_of n h text ≡ Some noted → IsTelling empty n h d before → Puts d text e before after
+    → IsTelling empty n h e after
+telling n h noted d text e false before after is f p = tt
+telling n h noted d text e true None after is f p = absurd f
+telling n h noted d text e true (Some bytes) None is f p = absurd p.added
+telling n h noted d text e true (Some bytes) (Some ys) is f p =
+    (f.0 ++ events_of noted, written n h noted d text e bytes ys f.0 is f.1 p)
+
 pub file : (n h : ℕ) (noted : Noted) (d text e : List ℕ) (empty : Bool) (before after : Option (List ℕ))
     → noted_of n h text ≡ Some noted → IsFile empty n h d before → Puts d text e before after
     → IsFile empty n h e after
-file n h noted d text e false before after is f p = tt
-file n h noted d text e true None after is f p = absurd f
-file n h noted d text e true (Some bytes) None is f p = absurd p.added
-file n h noted d text e true (Some bytes) (Some ys) is f p =
-    (f.0 ++ events_of noted, written n h noted d text e bytes ys f.0 is f.1 p)
+file n h noted d text e empty before after is f p =
+    record { telling = telling n h noted d text e empty before after is f.telling p }
 
 -- what the lines tell after one more
-pub grown : (n h : ℕ) (noted : Noted) (d text e : List ℕ) (empty : Bool) (before after : Option (List ℕ))
-    → noted_of n h text ≡ Some noted → IsFile empty n h d before → Puts d text e before after
+told_grown : (n h : ℕ) (noted : Noted) (d text e : List ℕ) (empty : Bool) (before after : Option (List ℕ))
+    → noted_of n h text ≡ Some noted → IsTelling empty n h d before → Puts d text e before after
     → told_at empty n h after ≡ with_more (told_at empty n h before) (events_of noted)
-grown n h noted d text e false before after is f p = refl
-grown n h noted d text e true None after is f p = absurd f
-grown n h noted d text e true (Some bytes) None is f p = absurd p.added
-grown n h noted d text e true (Some bytes) (Some ys) is f p =
+told_grown n h noted d text e false before after is f p = refl
+told_grown n h noted d text e true None after is f p = absurd f
+told_grown n h noted d text e true (Some bytes) None is f p = absurd p.added
+told_grown n h noted d text e true (Some bytes) (Some ys) is f p =
     let now = (written n h noted d text e bytes ys f.0 is f.1 p).told in
     ap (option_map (λ (t : Told). t.events)) now
     ∙ sym (ap (λ o. with_more (option_map (λ (t : Told). t.events) o) (events_of noted)) f.1.told)
+
+pub grown : (n h : ℕ) (noted : Noted) (d text e : List ℕ) (empty : Bool) (before after : Option (List ℕ))
+    → noted_of n h text ≡ Some noted → IsFile empty n h d before → Puts d text e before after
+    → told_at empty n h after ≡ with_more (told_at empty n h before) (events_of noted)
+grown n h noted d text e empty before after is f p =
+    told_grown n h noted d text e empty before after is f.telling p
 
 module _ (n h : ℕ) (text e : List ℕ) where
   -- a file whose only line is a header
@@ -173,22 +185,37 @@ module _ (n h : ℕ) (text e : List ℕ) where
       ∙ sym (ap (λ l. l ++ lines rest) ends) in
       subst (λ b. IsWritten n h e b []) (sym marked) (record { whole = whole; told = told })
 
-  -- the file of a journal that begins
-  pub begun : (before after : Option (List ℕ)) → Puts no_digest text e before after
-      → IsFile (is_empty before) n h e after
-  begun None after p = tt
-  begun (Some []) None p = absurd p.added
-  begun (Some []) (Some ys) p = ([], only ys p)
-  begun (Some (b ∷ bs)) after p = tt
+  begun_telling : (before after : Option (List ℕ)) → Puts no_digest text e before after
+      → IsTelling (is_empty before) n h e after
+  begun_telling None after p = tt
+  begun_telling (Some []) None p = absurd p.added
+  begun_telling (Some []) (Some ys) p = ([], only ys p)
+  begun_telling (Some (b ∷ bs)) after p = tt
 
   no_event : (o : Option Told) → o ≡ Some (record { digest = e; events = [] })
       → IsEmpty (with_more (option_map (λ (t : Told). t.events) o) [])
   no_event o is = subst (λ x. IsEmpty (with_more (option_map (λ (t : Told). t.events) x) [])) (sym is) refl
 
-  -- its lines tell no event
-  pub nothing_kept : (before after : Option (List ℕ)) → Puts no_digest text e before after
+  none_kept : (before after : Option (List ℕ)) → Puts no_digest text e before after
       → IsEmpty (with_more (told_at (is_empty before) n h after) [])
-  nothing_kept None after p = tt
-  nothing_kept (Some []) None p = absurd p.added
-  nothing_kept (Some []) (Some ys) p = no_event (told_in n h ys) (only ys p).told
-  nothing_kept (Some (b ∷ bs)) after p = tt
+  none_kept None after p = tt
+  none_kept (Some []) None p = absurd p.added
+  none_kept (Some []) (Some ys) p = no_event (told_in n h ys) (only ys p).told
+  none_kept (Some (b ∷ bs)) after p = tt
+
+-- the file of a journal that begins
+pub begun : (n h : ℕ) (d text e : List ℕ) (empty : Bool) (before after : Option (List ℕ)) → empty ≡ is_empty before
+    → d ≡ no_digest → Puts d text e before after → IsFile empty n h e after
+begun n h d text e empty before after is start p =
+    record {
+      telling = subst (λ x. IsTelling x n h e after) (sym is)
+          (begun_telling n h text e before after (subst (λ x. Puts x text e before after) start p));
+    }
+
+-- its lines tell no event
+pub nothing_kept : (n h : ℕ) (d text e : List ℕ) (empty : Bool) (before after : Option (List ℕ))
+    → empty ≡ is_empty before → d ≡ no_digest → Puts d text e before after
+    → IsEmpty (with_more (told_at empty n h after) [])
+nothing_kept n h d text e empty before after is start p =
+    subst (λ x. IsEmpty (with_more (told_at x n h after) [])) (sym is)
+    (none_kept n h text e before after (subst (λ x. Puts x text e before after) start p))

@@ -1,5 +1,5 @@
 -- The file of a journal that is written, line by line.
-use Rattle.std.specs.Prelude.{◌≡◌, ⊤, ⊥, ℕ, ◌==◌, not, Bool, true, false, List, [], ◌∷◌, ◌++◌, length, Option, Some, None, codes, option_map}
+use Rattle.std.specs.Prelude.{◌≡◌, ⊤, ℕ, ◌==◌, not, Bool, true, false, List, [], ◌∷◌, ◌++◌, length, Option, Some, None, codes, option_map}
 use Rattle.std.specs.Option.{option_and_then}
 use Rattle.std.specs.List.{list_all}
 use Rattle.std.specs.Io.KnownBytes.{Appends}
@@ -50,11 +50,15 @@ is_empty None = false
 is_empty (Some []) = true
 is_empty (Some (b ∷ bs)) = false
 
--- a file that was empty when its journal began has whole lines, with this digest at their end
-abbrev pub IsFile : (empty : Bool) → (hosts host : ℕ) → (digest : List ℕ) → Option (List ℕ) → Type 0
-IsFile false n h digest contents = ⊤
-IsFile true n h digest None = ⊥
-IsFile true n h digest (Some bytes) = (events : List HostEvent) × IsWritten n h digest bytes events
+-- what is known of the bytes of a file: nothing, unless it was empty when its journal began; else they tell some events
+abbrev pub IsTelling : (empty : Bool) → (hosts host : ℕ) → (digest : List ℕ) → Option (List ℕ) → Type 0
+IsTelling false n h digest contents = ⊤
+IsTelling true n h digest None = ⊥
+IsTelling true n h digest (Some bytes) = (events : List HostEvent) × IsWritten n h digest bytes events
+
+-- the file of a journal, which was known to be empty when the journal began, or not; this is the digest of its last line
+pub record IsFile (empty : Bool) (hosts host : ℕ) (digest : List ℕ) (contents : Option (List ℕ)) : Type 0 where
+  pub telling : IsTelling empty hosts host digest contents
 
 -- the events that the lines of a file tell, if it was empty when its journal began
 abbrev pub told_at : (empty : Bool) → (hosts host : ℕ) → Option (List ℕ) → Option (List HostEvent)

@@ -4,13 +4,13 @@
 //! Stands on `rvm_core` for the lines of commands, on `rvm_frame` for frames, on `rvm_cell` for the log of a host, and on
 //! `sha2` and `hex`. It must not know files, processes or threads.
 //!
-//! To be read in this order: `run`, `noted`, `digest`, `texts`, `header`, `open`, `writer`.
+//! To be read in this order: `run`, `noted`, `digest`, `texts`, `header`, `file`, `writer`.
 #![tactic(auto)]
 
 mod digest;
+mod file;
 mod header;
 mod noted;
-mod open;
 mod run;
 mod texts;
 mod writer;

@@ -1,6 +1,6 @@
 //! Consecutive turns of harts.
 
-ghost use Rattle.std.specs.Prelude.{◌≡◌, ◌+◌, ◌++◌, ◌<◌, ◌≤◌, IfSome};
+ghost use Rattle.std.specs.Prelude.{◌≡◌, ◌%◌, ◌+◌, ◌++◌, ◌<◌, ◌≤◌, IfSome};
 ghost use Rattle.rvm_cell.specs.Logs.{steps_from};
 
 /// Consecutive turns: so many steps of 1 to 8 harts, one after the other, the first by hart `first`.

@@ -7,7 +7,7 @@ ghost use Rattle.rvm_journal.specs.Written.{kept_of};
 ghost use Rattle.rvm_message.specs.declared.event.HostEvent.TheVariants.{Came, Do};
 
 use crate::header::{Header, header_text};
-use crate::open::Open;
+use crate::file::JournalFile;
 use rvm_cell::EventLog;
 use rvm_frame::Frame;
 use rvm_message::Command;
@@ -21,7 +21,7 @@ use std::marker::Model;
 /// with the line before it, and nothing is kept from then on.
 #[derive(Drop)]
 pub struct JournalWriter<W: Write + Drop> {
-    open: Option<Open<W>>,
+    file: Option<JournalFile<W>>,
 }
 
 impl<W: Write + Drop> Model for JournalWriter<W> {
@@ -32,7 +32,7 @@ impl<W: Write + Drop> Model for JournalWriter<W> {
 
     ghost Value = { Option (List HostEvent) };
 
-    ghost view = { λ j. option_and_then kept_of j.open };
+    ghost view = { λ j. option_and_then kept_of j.file };
 }
 
 impl<W: Write + Drop> JournalWriter<W> {
@@ -41,21 +41,21 @@ impl<W: Write + Drop> JournalWriter<W> {
         ensures { IfOk result IsEmpty }
     {
         let text = header_text(alloc, header)?;
-        let open = Open::begin(alloc, writer, header.hosts, header.host, &text)?;
-        Ok(JournalWriter { open: Some(open) })
+        let file = JournalFile::begin(alloc, writer, header.hosts, header.host, &text)?;
+        Ok(JournalWriter { file: Some(file) })
     }
 
     /// Whether the journal ended before its host did: since a line could not be written, or memory ran out.
     pub fn has_ended(&self) -> bool {
-        self.open.is_none()
+        self.file.is_none()
     }
 
     /// Writes the turns that have no line yet, and ends the journal. `LinkFault` if they cannot be written, or if the
     /// journal had ended.
     pub fn finish(self) -> Result<(), LinkFault> {
-        match self.open {
-            Some(open) => {
-                let _flushed = open.flush()?;
+        match self.file {
+            Some(file) => {
+                let _flushed = file.flush()?;
                 Ok(())
             }
             None => Err(LinkFault),
@@ -70,43 +70,43 @@ impl<W: Write + Drop> EventLog for JournalWriter<W> {
     ghost kept = { λ j. j };
 
     fn command(&mut self, command: &Command) {
-        self.open = commanded(self.open.take(), command);
+        self.file = commanded(self.file.take(), command);
     }
 
     fn came(&mut self, from: u8, frame: &Frame) {
-        self.open = heard(self.open.take(), from, frame);
+        self.file = heard(self.file.take(), from, frame);
     }
 
     fn turns(&mut self, turn: u64, harts: u32, count: u32) {
-        self.open = turned(self.open.take(), turn, harts, count);
+        self.file = turned(self.file.take(), turn, harts, count);
     }
 }
 
 /// A journal with the line of a command, unless it has ended, or ends since the line cannot be written.
 #[tactic(auto, using(crate::proofs::Keeping::keeps_on, crate::proofs::Keeping::lost))]
-fn commanded<W: Write + Drop>(open: Option<Open<W>>, command: &Command) -> Option<Open<W>>
-    ensures { KeepsOn (option_and_then kept_of open) (option_and_then kept_of result) (Do command.now ∷ []) }
+fn commanded<W: Write + Drop>(file: Option<JournalFile<W>>, command: &Command) -> Option<JournalFile<W>>
+    ensures { KeepsOn (option_and_then kept_of file) (option_and_then kept_of result) (Do command.now ∷ []) }
 {
-    open?.command(command).ok()
+    file?.command(command).ok()
 }
 
 /// A journal with the line of a frame that came, unless it has ended, or ends since the line cannot be written.
 #[tactic(auto, using(crate::proofs::Keeping::keeps_on, crate::proofs::Keeping::lost))]
-fn heard<W: Write + Drop>(open: Option<Open<W>>, from: u8, frame: &Frame) -> Option<Open<W>>
-    ensures { KeepsOn (option_and_then kept_of open) (option_and_then kept_of result) (Came from frame.now ∷ []) }
+fn heard<W: Write + Drop>(file: Option<JournalFile<W>>, from: u8, frame: &Frame) -> Option<JournalFile<W>>
+    ensures { KeepsOn (option_and_then kept_of file) (option_and_then kept_of result) (Came from frame.now ∷ []) }
 {
-    open?.came(from, frame).ok()
+    file?.came(from, frame).ok()
 }
 
 /// A journal that keeps turns, unless it has ended, or ends since a line cannot be written.
 #[tactic(auto, using(crate::proofs::Keeping::keeps_on, crate::proofs::Keeping::lost))]
 fn turned<W: Write + Drop>(
-    open: Option<Open<W>>,
+    file: Option<JournalFile<W>>,
     turn: u64,
     harts: u32,
     count: u32,
-) -> Option<Open<W>>
-    ensures { KeepsOn (option_and_then kept_of open) (option_and_then kept_of result) (steps_from turn harts count) }
+) -> Option<JournalFile<W>>
+    ensures { KeepsOn (option_and_then kept_of file) (option_and_then kept_of result) (steps_from turn harts count) }
 {
-    open?.turns(turn, harts, count).ok()
+    file?.turns(turn, harts, count).ok()
 }

@@ -1,6 +1,6 @@
 //! The file of a journal to which lines are added.
 
-ghost use Rattle.std.specs.Prelude.{◌≡◌, ◌++◌, ◌∷◌, [], None, Some, IfOk, OnOk, codes, length};
+ghost use Rattle.std.specs.Prelude.{◌≡◌, ◌++◌, ◌∷◌, [], None, Some, IfOk, OnOk, codes, length, true};
 ghost use Rattle.std.specs.List.{list_all};
 ghost use Rattle.rvm_cell.specs.Logs.{IsEmpty, steps_from};
 ghost use Rattle.rvm_journal.specs.Noting.{events_of, noted_of};
@@ -26,7 +26,7 @@ const LONGEST: u32 = 1 << 22;
 /// The file of a journal to which lines are added, and the turns that have no line yet. What its lines tell is known if
 /// it is known that the file was empty when the journal began.
 #[derive(Drop)]
-pub(crate) struct Open<W: Write + Drop> {
+pub(crate) struct JournalFile<W: Write + Drop> {
     writer: W,
     alloc: Global,
     /// The number of hosts of the world.
@@ -41,7 +41,7 @@ pub(crate) struct Open<W: Write + Drop> {
     began: Snapshot<W>,
 }
 
-impl<W: Write + Drop> Model for Open<W> {
+impl<W: Write + Drop> Model for JournalFile<W> {
     ghost use Rattle.rvm_journal.specs.Written.{IsFile, Keeping, is_empty, told_at};
 
     ghost Value = { Keeping };
@@ -55,22 +55,21 @@ impl<W: Write + Drop> Model for Open<W> {
         (W.contents o.writer) };
 }
 
-impl<W: Write + Drop> Open<W> {
+impl<W: Write + Drop> JournalFile<W> {
     /// Begins the journal of host `host` of this many hosts, with this text as its first line. Fails if the text has a
     /// line feed, or if it cannot be written.
-    #[tactic(auto, using(crate::proofs::Adding::begun))]
     pub(crate) fn begin(
         alloc: Global,
         mut writer: W,
         hosts: u8,
         host: u8,
         text: &[u8],
-    ) -> Result<Open<W>, LinkFault>
-        ensures { IfOk result (λ open. IsEmpty (kept_of open)) }
+    ) -> Result<JournalFile<W>, LinkFault>
+        ensures { IfOk result (λ file. IsEmpty (kept_of file)) }
     {
         let began = Snapshot::of(&writer);
         let digest = put(alloc, &mut writer, LineDigest::none(), text)?;
-        Ok(Open {
+        Ok(JournalFile {
             writer,
             alloc,
             hosts,
@@ -82,30 +81,30 @@ impl<W: Write + Drop> Open<W> {
     }
 
     /// Adds the line of a command.
-    pub(crate) fn command(self, command: &Command) -> Result<Open<W>, LinkFault>
-        ensures { IfOk result (λ open. kept_of open ≡ with_more (kept_of self) (Do command.now ∷ [])) }
+    pub(crate) fn command(self, command: &Command) -> Result<JournalFile<W>, LinkFault>
+        ensures { IfOk result (λ file. kept_of file ≡ with_more (kept_of self) (Do command.now ∷ [])) }
     {
-        let open = self.without_run()?;
-        let text = command_text(open.alloc, open.hosts, open.host, command)?;
-        open.line(&text, &Noted::Command(command.copy()))
+        let file = self.without_run()?;
+        let text = command_text(file.alloc, file.hosts, file.host, command)?;
+        file.line(&text, &Noted::Command(command.copy()))
     }
 
     /// Adds the line of a frame that came from host `from`.
-    pub(crate) fn came(self, from: u8, frame: &Frame) -> Result<Open<W>, LinkFault>
-        ensures { IfOk result (λ open. kept_of open ≡ with_more (kept_of self) (Came from frame.now ∷ [])) }
+    pub(crate) fn came(self, from: u8, frame: &Frame) -> Result<JournalFile<W>, LinkFault>
+        ensures { IfOk result (λ file. kept_of file ≡ with_more (kept_of self) (Came from frame.now ∷ [])) }
     {
-        let open = self.without_run()?;
-        let text = came_text(open.alloc, open.host, from, frame)?;
-        let Ok(frame) = frame.copy(open.alloc) else {
+        let file = self.without_run()?;
+        let text = came_text(file.alloc, file.host, from, frame)?;
+        let Ok(frame) = frame.copy(file.alloc) else {
             return Err(LinkFault);
         };
-        open.line(&text, &Noted::Came { from, frame })
+        file.line(&text, &Noted::Came { from, frame })
     }
 
     /// Keeps turns of this many harts, from turn `turn` on, for a line that they share with the turns before and after
     /// them. They wait for it until something else happens, or until there are more than `LONGEST`.
-    pub(crate) fn turns(self, turn: u64, harts: u32, count: u32) -> Result<Open<W>, LinkFault>
-        ensures { IfOk result (λ open. kept_of open ≡ with_more (kept_of self) (steps_from turn harts count)) }
+    pub(crate) fn turns(self, turn: u64, harts: u32, count: u32) -> Result<JournalFile<W>, LinkFault>
+        ensures { IfOk result (λ file. kept_of file ≡ with_more (kept_of self) (steps_from turn harts count)) }
     {
         if harts == 0 {
             return Err(LinkFault);
@@ -114,19 +113,19 @@ impl<W: Write + Drop> Open<W> {
     }
 
     /// Writes the turns that have no line yet, and hands all that was written to the system.
-    pub(crate) fn flush(self) -> Result<Open<W>, LinkFault>
-        ensures { IfOk result (λ open. kept_of open ≡ kept_of self) }
+    pub(crate) fn flush(self) -> Result<JournalFile<W>, LinkFault>
+        ensures { IfOk result (λ file. kept_of file ≡ kept_of self) }
     {
-        let mut open = self.without_run()?;
-        open.writer.flush()?;
-        Ok(open)
+        let mut file = self.without_run()?;
+        file.writer.flush()?;
+        Ok(file)
     }
 }
 
-impl<W: Write + Drop> Open<W> {
+impl<W: Write + Drop> JournalFile<W> {
     /// Keeps turns for a line.
-    fn with_run(self, more: Run) -> Result<Open<W>, LinkFault>
-        ensures { IfOk result (λ open. kept_of open
+    fn with_run(self, more: Run) -> Result<JournalFile<W>, LinkFault>
+        ensures { IfOk result (λ file. kept_of file
             ≡ with_more (kept_of self) (steps_from more.first more.harts more.count)) }
     {
         let run = self.run;
@@ -137,17 +136,17 @@ impl<W: Write + Drop> Open<W> {
     }
 
     /// This journal with these turns that have no line yet, in place of those that it has.
-    fn waiting(self, run: Run) -> Open<W>
+    fn waiting(self, run: Run) -> JournalFile<W>
         ensures { result ≡ record self { run = Some run } }
     {
-        let mut open = self;
-        open.run = Some(run);
-        open
+        let mut file = self;
+        file.run = Some(run);
+        file
     }
 
     /// Writes the line of the turns that have none yet, if there are such turns.
-    fn without_run(self) -> Result<Open<W>, LinkFault>
-        ensures { IfOk result (λ open. open
+    fn without_run(self) -> Result<JournalFile<W>, LinkFault>
+        ensures { IfOk result (λ file. file
             ≡ record { told = with_more self.told (waiting self.run); run = None }) }
     {
         match self.run {
@@ -161,12 +160,11 @@ impl<W: Write + Drop> Open<W> {
 
     /// Adds a line with this text, which tells `noted`; no turns are to wait for a line. Fails if the text is not read as
     /// that, or if the line cannot be written.
-    #[tactic(auto, using(crate::proofs::Adding::grown, crate::proofs::Adding::file))]
-    fn line(self, text: &[u8], noted: &Noted) -> Result<Open<W>, LinkFault>
-        ensures { IfOk result (λ open. open
+    fn line(self, text: &[u8], noted: &Noted) -> Result<JournalFile<W>, LinkFault>
+        ensures { IfOk result (λ file. file
             ≡ record { told = with_more self.told (events_of noted.now); run = None }) }
     {
-        let Open {
+        let JournalFile {
             mut writer,
             alloc,
             hosts,
@@ -177,7 +175,7 @@ impl<W: Write + Drop> Open<W> {
         } = self;
         check(alloc, hosts, host, text, noted)?;
         let digest = put(alloc, &mut writer, digest, text)?;
-        Ok(Open {
+        Ok(JournalFile {
             writer,
             alloc,
             hosts,
@@ -240,7 +238,7 @@ fn marked(alloc: Global, digest: LineDigest, text: &[u8]) -> Result<Vec<u8>, Lin
 
 /// Whether a text has no line feed.
 fn is_one_line(text: &[u8]) -> bool
-    ensures { result ≡ true → list_all is_no_feed text.now ≡ true }
+    ensures { result ≡ list_all is_no_feed text.now }
 {
     text.iter().all(|byte| *byte != b'\n')
 }
