@@ -155,6 +155,8 @@ pub struct HostArguments<'a> {
     pub secret: Option<&'a str>,
     /// The file whose bytes come to the console, if any.
     pub input: Option<&'a str>,
+    /// The file of the host's journal, if it keeps one.
+    pub journal: Option<&'a str>,
     /// The number of milliseconds that a move waits for an answer before it is given up, 1 to 1000000000.
     pub patience: u32,
     /// The most turns that are made in a second, 1 to 1000000000, if there is a limit.

@@ -107,6 +107,7 @@ pub record IsHost (rows : List Row) (host : HostArguments) : Type 0 where
   pub control : first_of (codes "control") rows ≡ Some host.control.now
   pub secret : first_of (codes "secret") rows ≡ option_map (λ s. s.now) host.secret
   pub input : first_of (codes "input") rows ≡ option_map (λ s. s.now) host.input
+  pub journal : first_of (codes "journal") rows ≡ option_map (λ s. s.now) host.journal
   pub patience : IsNumber (first_of (codes "patience") rows) host.patience
   pub rate : IsOptionalNumber (first_of (codes "rate") rows) host.rate
   pub until_halt : IsFlag (one_of (codes "until-halt") rows) host.until_halt

@@ -141,13 +141,19 @@ with_hosting command =
     (bounded (codes "rate") 1 1000000000))
     (flag (codes "until-halt"))
 
+-- a command that takes the file of a journal
+abbrev pub with_journal : App → App
+with_journal command = with_rule command (option (codes "journal"))
+
 -- a command that takes the name of a host, and perhaps the image of a guest
 abbrev pub with_name : App → App
 with_name command = with_rule (with_rule command (needed (codes "name"))) (allowed (codes "image"))
 
 -- the command that runs a host, at which a guest begins if an image is named
 abbrev pub host : App
-host = with_verdict (with_hosting (with_addresses (with_board (with_name (new_app (codes "host"))))))
+host =
+    with_verdict
+    (with_journal (with_hosting (with_addresses (with_board (with_name (new_app (codes "host")))))))
 
 -- the command that tells a host lines
 abbrev pub tell : App

@@ -7,7 +7,7 @@ ghost use Rattle.clap.specs.Walk.{rule_of};
 ghost use Rattle.clap.specs.Words.{kind_of};
 ghost use Rattle.clap.specs.declared.builder.command.Command.TheViews.{out-Command as fields_of};
 ghost use Rattle.clap.specs.declared.error.kind.ErrorKind.TheVariants as kind;
-ghost use Rattle.rvm_command_line.specs.Program.{allowed, asm, audit, bounded, debug, dis, flag, host, move, needed, needed_option, number, option, program, run, script, tell, top, with_addresses, with_board, with_default, with_guest, with_hosting, with_move, with_name, with_policy, with_status, with_trace, with_verdict, with_watch, with_world};
+ghost use Rattle.rvm_command_line.specs.Program.{allowed, asm, audit, bounded, debug, dis, flag, host, move, needed, needed_option, number, option, program, run, script, tell, top, with_addresses, with_board, with_default, with_guest, with_hosting, with_journal, with_move, with_name, with_policy, with_status, with_trace, with_verdict, with_watch, with_world};
 
 use clap::builder::ValueParser;
 use clap::{Arg, ArgAction, Command, Error};
@@ -712,6 +712,21 @@ fn hosting_command<'a>(command: Command<'a>, alloc: Global) -> Result<Command<'a
     )
 }
 
+/// Adds to a command the option `--journal`: the file of the host's journal.
+fn journal_command<'a>(command: Command<'a>, alloc: Global) -> Result<Command<'a>, Error>
+    ensures app { IfOk result (λ c. app_of c ≡ with_journal (app_of command.entry)) }
+    ensures local { (fields_of command.entry).has_globals ≡ false
+        → IfOk result (λ c. (fields_of c).has_globals ≡ false) }
+    ensures memory { IfErr result (λ e. kind_of e ≡ kind.OutOfMemory) }
+{
+    Ok(command.arg(option(
+        alloc,
+        "journal",
+        "FILE",
+        "The file of its journal, in which each event at this host has a line",
+    ))?)
+}
+
 /// The command `host`, with the words that it takes.
 fn host_command<'a>(alloc: Global) -> Result<Command<'a>, Error>
     ensures app { IfOk result (λ c. app_of c ≡ host) }
@@ -723,7 +738,7 @@ fn host_command<'a>(alloc: Global) -> Result<Command<'a>, Error>
         .after_help(HOST_HELP);
     let host = board_command(named_command(host, alloc)?, alloc)?;
     let host = hosting_command(addresses_command(host, alloc)?, alloc)?;
-    judged_command(host, alloc)
+    judged_command(journal_command(host, alloc)?, alloc)
 }
 
 /// The command `tell`, with the words that it takes.

@@ -333,11 +333,28 @@ fn read_host<'a>(host: &ArgMatches<'a>) -> Result<HostArguments<'a>, &'static st
         control,
         secret: text(host, "secret"),
         input: text(host, "input"),
+        journal: read_journal(host)?,
         patience,
         rate,
         until_halt: flag(host, "until-halt"),
         verdict: flag(host, "verdict"),
     })
+}
+
+/// The file of the journal of a host, if it keeps one. Fails with a text if it is a file that the host reads.
+fn read_journal<'a>(host: &ArgMatches<'a>) -> Result<Option<&'a str>, &'static str>
+    ensures { IfOk result (λ file. first_of (codes "journal") (rows_of (found_of host.now))
+        ≡ option_map (λ s. s.now) file) }
+{
+    let Some(file) = text(host, "journal") else {
+        return Ok(None);
+    };
+    for read in ["image", "peers", "secret", "input"] {
+        if is_named(text(host, read), file) {
+            return Err("the file of --journal is one that is read");
+        }
+    }
+    Ok(Some(file))
 }
 
 /// The guest of a command, if an image is named. Fails with a text that says which of its arguments is not what it must
