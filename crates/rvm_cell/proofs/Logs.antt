@@ -1,6 +1,7 @@
 -- What a log kept after one more call of its host.
 use Rattle.std.proofs.Common.{◌≡◌, ◌∙◌, ℕ, zero, suc, ◌+◌, ◌-◌, ◌^◌, ◌<◌, ◌≤◌, ◌%◌, List, [], ◌∷◌, ◌++◌, Option, None, Some, true, map, ap, arith, refl, subst, sym}
-use Rattle.std.proofs.lemmas.Grind.{fold-append, map-append}
+use Rattle.std.proofs.lemmas.Grind.{fold-append}
+use Rattle.std.proofs.lemmas.List.{map-append}
 use Rattle.std.specs.List.{fold}
 use Rattle.std.specs.Prelude.{is_some}
 use Rattle.rvm_board.specs.declared.retiring.Retired as told
