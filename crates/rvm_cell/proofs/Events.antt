@@ -22,7 +22,7 @@ pub at_first : (o : PlainHost) → IsReached o o
 at_first o = record { events = []; reached = refl; rest = refl }
 
 -- the step of a host that has the numbers of the opening host
-same_step : (o h : PlainHost) (e : BoardHostEvent) → h ≡ record o { mode = h.mode; partner = h.partner }
+pub same_step : (o h : PlainHost) (e : BoardHostEvent) → h ≡ record o { mode = h.mode; partner = h.partner }
     → (step_of h e).next ≡ next_at o (host_of h) e
 same_step o h e rest = ap (λ (x : PlainHost). (step_of x e).next) rest
 
@@ -65,7 +65,7 @@ pub answered : (o old new : PlainHost) (e : HostEvent) (reply : HostReply) (fram
 answered o old new e reply frame r s = record { host = old; reached = r; replied = s.reply }
 
 -- a host after steps that retired an instruction
-all_retired : (o : PlainHost) (harts n turn : ℕ) (old new : PlainHost) → IsReached o old
+pub all_retired : (o : PlainHost) (harts n turn : ℕ) (old new : PlainHost) → IsReached o old
     → AreRetired harts n turn old new → IsReached o new
 all_retired o harts zero turn old new r all = kept o old new all r
 all_retired o harts (suc n) turn old new r all =

@@ -1,4 +1,5 @@
 pub mod Events
+pub mod Logs
 pub mod CellSends
 pub mod Asked
 pub mod Sends

@@ -8,6 +8,7 @@ ghost use Rattle.rvm_message.specs.declared.event.Command.TheVariants.{Copy};
 ghost use Rattle.rvm_message.specs.declared.event.HostEvent.TheVariants.{Came, Do};
 
 use crate::cell::HostCell;
+use crate::log::EventLog;
 use crate::origin::{Hosting, Of, Opening};
 use crate::turns::Slice;
 use rvm_frame::Frame;
@@ -58,20 +59,31 @@ pub trait Access<L: Hosting> {
 
 /// A thread's access to a host under a lock. It keeps no list of what it asked.
 #[derive(Drop)]
-pub struct CellAccess<'c, L: Opening, M: PagedMemory + Drop, R: Wait> {
+pub struct CellAccess<'c, L: Opening, M: PagedMemory + Drop, J: EventLog + Drop, R: Wait> {
     rt: &'c R,
     alloc: Global,
-    cell: &'c HostCell<L, M>,
+    cell: &'c HostCell<L, M, J>,
 }
 
-impl<'c, L: Opening, M: PagedMemory + Drop, R: Wait> CellAccess<'c, L, M, R> {
+impl<'c, L: Opening, M: PagedMemory + Drop, J: EventLog + Drop, R: Wait> CellAccess<
+    'c,
+    L,
+    M,
+    J,
+    R,
+> {
     /// An access that has asked nothing.
-    pub fn new(rt: &'c R, alloc: Global, cell: &'c HostCell<L, M>) -> CellAccess<'c, L, M, R> {
+    pub fn new(
+        rt: &'c R,
+        alloc: Global,
+        cell: &'c HostCell<L, M, J>,
+    ) -> CellAccess<'c, L, M, J, R> {
         CellAccess { rt, alloc, cell }
     }
 }
 
-impl<'c, L: Opening, M: PagedMemory + Drop, R: Wait> Access<Of<L>> for CellAccess<'c, L, M, R> {
+impl<'c, L: Opening, M: PagedMemory + Drop, J: EventLog + Drop, R: Wait> Access<Of<L>>
+    for CellAccess<'c, L, M, J, R> {
     fn obey(&mut self, command: &Command) -> Result<(HostReply, Option<Made<Of<L>>>), AllocError> {
         self.cell.obey(self.rt, self.alloc, command)
     }

@@ -3,10 +3,12 @@
 ghost use Rattle.std.specs.Prelude.{◌≡◌, ◌≤◌, IfOk};
 ghost use Rattle.rvm_cell.specs.Events.{IsAnswer};
 ghost use Rattle.rvm_cell.specs.Halts.{HaltsSo};
+ghost use Rattle.rvm_cell.specs.Logs.{IsEmpty};
 ghost use Rattle.rvm_message.specs.declared.event.Command.TheVariants.{Copy};
 ghost use Rattle.rvm_message.specs.declared.event.HostEvent.TheVariants.{Came, Do};
 
 use crate::copies::copy_some;
+use crate::log::EventLog;
 use crate::origin::{Of, Opening};
 use crate::reached::Reached;
 use crate::turns::{Slice, make_slice};
@@ -18,19 +20,21 @@ use rvm_message::{Command, HostReply};
 use std::alloc::{AllocError, Global};
 use std::sync::{Mutex, Wait};
 
-/// A host under a lock, which several threads call. Each call may wait for another thread.
+/// A host under a lock, which several threads call, and the log of the events that happen at it. Each call may wait for
+/// another thread.
 #[derive(Drop)]
-pub struct HostCell<L: Opening, M: PagedMemory + Drop> {
-    lock: Mutex<Reached<L, M>>,
+pub struct HostCell<L: Opening, M: PagedMemory + Drop, J: EventLog + Drop> {
+    lock: Mutex<Reached<L, M, J>>,
 }
 
-impl<L: Opening, M: PagedMemory + Drop> HostCell<L, M> {
-    /// A cell with the host that its process begins with.
-    pub fn new(host: Host<M>) -> HostCell<L, M>
-        requires { host ≡ L.opening }
+impl<L: Opening, M: PagedMemory + Drop, J: EventLog + Drop> HostCell<L, M, J> {
+    /// A cell with the host that its process begins with, and a log that has kept nothing yet.
+    pub fn new(host: Host<M>, log: J) -> HostCell<L, M, J>
+        requires host { host ≡ L.opening }
+        requires log { IsEmpty (J.kept log) }
     {
         HostCell {
-            lock: Mutex::new(Reached::new(host)),
+            lock: Mutex::new(Reached::new(host, log)),
         }
     }
 

@@ -5,6 +5,7 @@ ghost use Rattle.rvm_cell.specs.Events.{IsAnswer};
 ghost use Rattle.rvm_message.specs.declared.event.Command.TheVariants.{Copy};
 ghost use Rattle.rvm_message.specs.declared.event.HostEvent.TheVariants.{Do};
 
+use crate::log::EventLog;
 use crate::origin::{Of, Opening};
 use crate::reached::Reached;
 use rvm_link::Made;
@@ -14,8 +15,8 @@ use std::alloc::{AllocError, Global};
 
 /// Has a host copy pages, at least one and at most `most`, up to the first reply that is no copy. Returns the last
 /// reply, and the number of copies before it. Appends the frames that the host made to `made`.
-pub(crate) fn copy_some<L: Opening, M: PagedMemory + Drop>(
-    host: &mut Reached<L, M>,
+pub(crate) fn copy_some<L: Opening, M: PagedMemory + Drop, J: EventLog + Drop>(
+    host: &mut Reached<L, M, J>,
     alloc: Global,
     most: u32,
     made: &mut Vec<Made<Of<L>>>,
@@ -34,8 +35,8 @@ pub(crate) fn copy_some<L: Opening, M: PagedMemory + Drop>(
 
 /// Has a host copy a page. Appends the frame that it made, if it made one, to `made`. If memory runs out, nothing was
 /// copied.
-fn copy_one<L: Opening, M: PagedMemory + Drop>(
-    host: &mut Reached<L, M>,
+fn copy_one<L: Opening, M: PagedMemory + Drop, J: EventLog + Drop>(
+    host: &mut Reached<L, M, J>,
     alloc: Global,
     made: &mut Vec<Made<Of<L>>>,
 ) -> Result<HostReply, AllocError>

@@ -1,8 +1,9 @@
 //! A host as events reached it from the one that its process began with.
 
-ghost use Rattle.std.specs.Prelude.{◌≡◌, ◌<◌, ◌≤◌, IfOk, IfSome, OnErr, None, true};
+ghost use Rattle.std.specs.Prelude.{◌≡◌, ◌-◌, ◌%◌, ◌^◌, ◌<◌, ◌≤◌, IfOk, IfSome, OnErr, None, is_some, true};
 ghost use Rattle.rvm_cell.specs.Events.{IsAnswer, IsMade};
 ghost use Rattle.rvm_cell.specs.Halts.{IsOfStep};
+ghost use Rattle.rvm_cell.specs.Logs.{IsEmpty, made_in};
 ghost use Rattle.rvm_host.specs.Hosts.{Steps};
 ghost use Rattle.rvm_host.specs.Retiring.{HostRetires};
 ghost use Rattle.rvm_host.specs.Statuses.{harts_of, status_of};
@@ -12,6 +13,7 @@ ghost use Rattle.rvm_message.specs.Exchanges.{dry_exchange, step_of_hart};
 ghost use Rattle.rvm_message.specs.Steps.{reply_to_step};
 ghost use Rattle.rvm_message.specs.declared.step.StepReply.TheVariants.{Stepped};
 
+use crate::log::EventLog;
 use crate::origin::{Of, Opening};
 use rvm_board::Retired;
 use rvm_frame::{Addressed, Frame};
@@ -22,39 +24,42 @@ use rvm_message::{Command, HostReply, StepReply};
 use std::alloc::{AllocError, Global};
 use std::marker::{Model, PhantomData};
 
-/// A host that events reached from the one that its process began with.
+/// A host that events reached from the one that its process began with, and the log of these events.
 #[derive(Drop)]
-pub(crate) struct Reached<L: Opening, M: PagedMemory + Drop> {
+pub(crate) struct Reached<L: Opening, M: PagedMemory + Drop, J: EventLog + Drop> {
     host: Host<M>,
+    log: J,
     hosting: PhantomData<L>,
 }
 
-impl<L: Opening, M: PagedMemory + Drop> Model for Reached<L, M> {
+impl<L: Opening, M: PagedMemory + Drop, J: EventLog + Drop> Model for Reached<L, M, J> {
     ghost use Rattle.rvm_host.specs.Hosts.{PlainHost};
-    ghost use Rattle.rvm_cell.specs.Events.{IsReached};
+    ghost use Rattle.rvm_cell.specs.Logs.{IsLogged};
 
     ghost Value = { PlainHost };
 
     ghost view = { λ r. r.host };
 
-    ghost invariant = { λ r. IsReached L.opening r.host };
+    ghost invariant = { λ r. IsLogged (J.kept r.log) L.opening r.host };
 }
 
-impl<L: Opening, M: PagedMemory + Drop> Reached<L, M> {
-    /// The host that the process begins with.
-    #[tactic(auto, using(crate::proofs::Events::at_first))]
-    pub(crate) fn new(host: Host<M>) -> Reached<L, M>
-        requires { host ≡ L.opening }
+impl<L: Opening, M: PagedMemory + Drop, J: EventLog + Drop> Reached<L, M, J> {
+    /// The host that the process begins with, and a log that has kept nothing yet.
+    #[tactic(auto, using(crate::proofs::Logs::at_first))]
+    pub(crate) fn new(host: Host<M>, log: J) -> Reached<L, M, J>
+        requires host { host ≡ L.opening }
+        requires log { IsEmpty (J.kept log) }
         ensures { result ≡ host }
     {
         Reached {
             host,
+            log,
             hosting: PhantomData,
         }
     }
 
-    /// Gives the host a command. Returns the reply, and the frame that was made, if one was. If memory runs out,
-    /// nothing has changed.
+    /// Gives the host a command, and keeps it. Returns the reply, and the frame that was made, if one was. If memory
+    /// runs out, nothing has changed, and nothing is kept.
     #[tactic(auto, using(crate::proofs::Events::answered))]
     pub(crate) fn obey(
         &mut self,
@@ -65,14 +70,13 @@ impl<L: Opening, M: PagedMemory + Drop> Reached<L, M> {
         ensures answer { IfOk result (λ a. IsAnswer L.opening (Do command.now) a.0) }
         ensures err { OnErr result (self.new ≡ self.old) }
     {
-        match self.host.obey(alloc, command) {
-            Ok((reply, frame)) => Ok((reply, handed_out(frame))),
-            Err(error) => Err(error),
-        }
+        let (reply, frame) = self.host.obey(alloc, command)?;
+        self.log.command(command);
+        Ok((reply, handed_out(frame)))
     }
 
-    /// Gives the host a frame that came from host `from`. Returns the reply, and the frame that was made, if one was.
-    /// If memory runs out, nothing has changed.
+    /// Gives the host a frame that came from host `from`, and keeps it. Returns the reply, and the frame that was made,
+    /// if one was. If memory runs out, nothing has changed, and nothing is kept.
     #[tactic(auto, using(crate::proofs::Events::answered))]
     pub(crate) fn came(
         &mut self,
@@ -84,28 +88,32 @@ impl<L: Opening, M: PagedMemory + Drop> Reached<L, M> {
         ensures answer { IfOk result (λ a. IsAnswer L.opening (Came from frame.now) a.0) }
         ensures err { OnErr result (self.new ≡ self.old) }
     {
-        match self.host.came(alloc, from, frame) {
-            Ok((reply, made)) => Ok((reply, handed_out(made))),
-            Err(error) => Err(error),
-        }
+        let (reply, made) = self.host.came(alloc, from, frame)?;
+        self.log.came(from, frame);
+        Ok((reply, handed_out(made)))
     }
 
-    /// Has a hart take a step.
+    /// Makes turn `turn` of this many harts by a step of hart `turn` modulo `harts`, and keeps it.
     #[tactic(auto, using(crate::proofs::Events::step_given))]
-    pub(crate) fn step(&mut self, hart: u32) -> StepReply
-        ensures steps { Steps self.old (event_of (step_of_hart hart)) (reply_to_step result, None) self.new }
+    pub(crate) fn step(&mut self, turn: u64, harts: u32) -> StepReply
+        requires { 0 < harts }
+        ensures steps { Steps self.old (event_of (step_of_hart (turn % harts))) (reply_to_step result, None) self.new }
         ensures given { IsOfStep (IsAnswer L.opening) (reply_to_step result) }
     {
-        self.host.step(hart)
+        let reply = self.host.step((turn % u64::from(harts)) as u32);
+        self.log.turns(turn, harts, 1);
+        reply
     }
 
     /// Has this many harts step in turn, at most `count` times, from turn `turn` on, as long as each step retires an
-    /// instruction; the first that does not is the last. It may make no step.
+    /// instruction; the first that does not is the last. It may make no step. Keeps the steps that were made.
     pub(crate) fn retire(&mut self, turn: u64, harts: u32, count: u32) -> Retired
         ensures steps { HostRetires harts turn count self.old self.new result }
         ensures given { IfSome result.last (λ s. IsOfStep (IsAnswer L.opening) (reply_to_step (Stepped s))) }
     {
-        self.host.retire(turn, harts, count)
+        let retired = self.host.retire(turn, harts, count);
+        self.log.turns(turn, harts, made_in(&retired));
+        retired
     }
 
     /// Whether a drain of at most this many bytes finds none at a guest that runs here.
@@ -129,6 +137,17 @@ impl<L: Opening, M: PagedMemory + Drop> Reached<L, M> {
         ensures { result ≡ status_of self.now }
     {
         self.host.status()
+    }
+}
+
+/// The number of steps that were made.
+fn made_in(retired: &Retired) -> u32
+    requires { is_some retired.now.last ≡ true → retired.now.count < 2 ^ 32 - 1 }
+    ensures { result ≡ made_in retired.now }
+{
+    match retired.last {
+        Some(_) => retired.count + 1,
+        None => retired.count,
     }
 }
 

@@ -5,6 +5,7 @@ ghost use Rattle.rvm_cell.specs.Events.{IsAnswer};
 ghost use Rattle.rvm_cell.specs.Halts.{HaltsSo, IsOfStep};
 ghost use Rattle.rvm_message.specs.Steps.{reply_to_step};
 
+use crate::log::EventLog;
 use crate::origin::Opening;
 use crate::reached::Reached;
 use crate::slices::Then;
@@ -25,8 +26,8 @@ pub struct Slice {
 
 /// Makes consecutive turns of the harts, at most `count`, from turn `turn` on, while the guest runs here and is not
 /// halted.
-pub(crate) fn make_slice<L: Opening, M: PagedMemory + Drop>(
-    reached: &mut Reached<L, M>,
+pub(crate) fn make_slice<L: Opening, M: PagedMemory + Drop, J: EventLog + Drop>(
+    reached: &mut Reached<L, M, J>,
     turn: u64,
     count: u32,
 ) -> Slice
@@ -45,8 +46,8 @@ pub(crate) fn make_slice<L: Opening, M: PagedMemory + Drop>(
 }
 
 /// Makes at most `count` turns of this many harts. Returns how many it made, and what comes after them.
-fn make_turns<L: Opening, M: PagedMemory + Drop>(
-    reached: &mut Reached<L, M>,
+fn make_turns<L: Opening, M: PagedMemory + Drop, J: EventLog + Drop>(
+    reached: &mut Reached<L, M, J>,
     turn: u64,
     harts: u32,
     count: u32,
@@ -65,7 +66,7 @@ fn make_turns<L: Opening, M: PagedMemory + Drop>(
         }
         let reply = match retired.last {
             Some(stepped) => StepReply::Stepped(stepped),
-            None => step_of(reached, turn.wrapping_add(u64::from(made)), harts),
+            None => reached.step(turn.wrapping_add(u64::from(made)), harts),
         };
         match then_of::<L>(reply) {
             Then::GoOn => made += 1,
@@ -73,18 +74,6 @@ fn make_turns<L: Opening, M: PagedMemory + Drop>(
         }
     }
     (made, Then::GoOn)
-}
-
-/// Makes turn `turn` by a step of hart `turn` modulo `harts`.
-fn step_of<L: Opening, M: PagedMemory + Drop>(
-    reached: &mut Reached<L, M>,
-    turn: u64,
-    harts: u32,
-) -> StepReply
-    requires { 0 < harts }
-    ensures { IsOfStep (IsAnswer L.opening) (reply_to_step result) }
-{
-    reached.step((turn % u64::from(harts)) as u32)
 }
 
 /// What comes after this reply to a step. A hart that stops at a breakpoint has had its turn.

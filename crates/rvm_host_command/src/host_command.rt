@@ -2,16 +2,17 @@
 
 ghost use Rattle.std.specs.Prelude.{◌≡◌, ◌≢◌, ◌≤◌, ◌⊎◌, IfErr, IfOk, true};
 ghost use Rattle.rvm_host_command.specs.Hosted.{HasBegun, IsGuestOf, IsHosted, IsHostedTo, IsNamed, host_status, status_told};
+ghost use Rattle.rvm_cell.specs.Logs.{IsEmpty};
 ghost use Rattle.rvm_cell.specs.declared.host_harts.HartsEnd.TheVariants.{ConsoleFault};
 
 use crate::address::{checked_address, is_path, listen_at, listen_for_operators};
 use crate::answers::letter_of;
 use crate::fault::{HostFault, Place};
-use crate::hosting::{HostPlan, work_at};
+use crate::hosting::{HostPlan, HostStart, work_at};
 use crate::operators::Operators;
 use rvm_arguments::HostArguments;
 use rvm_board::Debugged;
-use rvm_cell::{HartsEnd, InputQueue};
+use rvm_cell::{EventLog, HartsEnd, InputQueue};
 use rvm_command::guest::load_guest;
 use rvm_greeting::{Peers, Secret, read_peers};
 use rvm_mem::PagedMemory;
@@ -40,14 +41,25 @@ pub struct HostBytes<'a> {
     pub secret: Option<&'a [u8]>,
 }
 
+/// What goes into a host beside the bytes of its files, and where its events are kept.
+#[derive(Drop)]
+pub struct Attached<'a, J: EventLog + Drop> {
+    /// The bytes that go to the guest's console while it is here.
+    pub input: &'a InputQueue,
+    /// Keeps the events that happen at the host.
+    pub log: J,
+}
+
 /// Works at a host until an operator ends it, or, if `arguments.until_halt` is set, until its guest has halted here.
-/// The bytes of `input` go to the guest's console while the guest is here, and what the guest sends goes to `output`.
+/// The bytes of `attached.input` go to the guest's console while the guest is here, what the guest sends goes to
+/// `output`, and the events that happen at the host go to `attached.log`.
 ///
 /// Returns the status: 1 if the host does not begin or the console cannot be written, and then `errors` says why. If a
 /// verdict is asked for, it is 3 if the guest halted here with a status other than 0, which ended the host. Else it is
 /// 0. `LinkFault` if the report why the host does not begin cannot be written.
 pub fn host_command<
     M: PagedMemory + Drop + Send,
+    J: EventLog + Drop + Send,
     O: Write,
     E: Write,
     R: Files + Net + Threads + Wait + Clock + RandomSource + Sync,
@@ -56,20 +68,21 @@ pub fn host_command<
     alloc: Global,
     arguments: &HostArguments,
     files: &HostBytes<'_>,
-    input: &InputQueue,
+    attached: Attached<'_, J>,
     output: &mut O,
     errors: &mut E,
 ) -> Result<u8, LinkFault>
 where
     R::Stream: Send,
     R::Listener: Send + Sync,
+    requires { IsEmpty (J.kept attached.log) }
     ensures status { IfOk result (λ status. (status ≡ 0) ⊎ (status ≡ 1)
         ⊎ ((status ≡ 3) × (arguments.now.verdict ≡ true))) }
     ensures done { IfOk result (λ status. status ≢ 1 → IsHostedTo arguments.now files.now.peers.now files.now.image.now
         status (O.contents output.old) (O.contents output.new)) }
 {
     let verdict = arguments.verdict;
-    let ended = run_host::<M, O, E, R>(rt, alloc, arguments, files, input, output, errors);
+    let ended = run_host::<M, J, O, E, R>(rt, alloc, arguments, files, attached, output, errors);
     tell_end(ended, verdict, errors)
 }
 
@@ -108,6 +121,7 @@ fn status_of(end: HartsEnd, verdict: bool) -> u8
 /// random number can be drawn, memory runs out, or the system starts no thread.
 fn run_host<
     M: PagedMemory + Drop + Send,
+    J: EventLog + Drop + Send,
     O: Write,
     E: Write,
     R: Files + Net + Threads + Wait + Clock + RandomSource + Sync,
@@ -116,13 +130,14 @@ fn run_host<
     alloc: Global,
     arguments: &HostArguments,
     files: &HostBytes<'_>,
-    input: &InputQueue,
+    attached: Attached<'_, J>,
     output: &mut O,
     errors: &mut E,
 ) -> Result<HartsEnd, HostFault>
 where
     R::Stream: Send,
     R::Listener: Send + Sync,
+    requires { IsEmpty (J.kept attached.log) }
     ensures shown { IfOk result (λ end. end ≢ ConsoleFault → IsHosted arguments.now files.now.peers.now
         files.now.image.now end (O.contents output.old) (O.contents output.new)) }
     ensures unbegun { IfErr result (λ fault. O.contents output.new ≡ O.contents output.old) }
@@ -140,13 +155,18 @@ where
         peers: &peers,
         hosts: &hosts,
         operators: &operators,
-        input,
+        input: attached.input,
         patience: Duration::from_millis(u64::from(arguments.patience)),
         rate: arguments.rate,
         until_halt: arguments.until_halt,
     };
     tell_addresses(&hosts, &operators, arguments.control, errors);
-    let ended = work_at::<M, O, E, R>(rt, alloc, &plan, secret, guest, output, errors);
+    let start = HostStart {
+        guest,
+        secret,
+        log: attached.log,
+    };
+    let ended = work_at::<M, J, O, E, R>(rt, alloc, &plan, start, output, errors);
     if is_path(arguments.control) {
         let _left = fs::remove_file(rt, arguments.control);
     }

@@ -2,6 +2,7 @@
 
 ghost use Rattle.std.specs.Prelude.{◌≡◌, ◌≢◌, IfErr, IfOk, length};
 ghost use Rattle.rvm_host_command.specs.Hosted.{HasWorked, opening_of};
+ghost use Rattle.rvm_cell.specs.Logs.{IsEmpty};
 ghost use Rattle.rvm_cell.specs.declared.host_harts.HartsEnd.TheVariants.{ConsoleFault};
 
 use crate::door::Door;
@@ -12,8 +13,8 @@ use crate::threads::work_beside;
 use crate::turns::Turns;
 use rvm_board::Debugged;
 use rvm_cell::{
-    HartsEnd, HartsPlan, HostCell, Hosting, InputQueue, News, Of, Opening, STREAM_VERSION, Station,
-    take_back,
+    EventLog, HartsEnd, HartsPlan, HostCell, Hosting, InputQueue, News, Of, Opening,
+    STREAM_VERSION, Station, take_back,
 };
 use rvm_greeting::{Peers, Registry, Secret};
 use rvm_host::Host;
@@ -57,11 +58,24 @@ pub struct HostPlan<'a, N: Drop> {
     pub until_halt: bool,
 }
 
+/// What a host process is given at its start, to keep.
+#[derive(Drop)]
+pub struct HostStart<M: PagedMemory + Drop, J: EventLog + Drop> {
+    /// The guest that begins here, if one does.
+    pub guest: Option<Debugged<M>>,
+    /// The secret of the hosts of the world.
+    pub secret: Secret,
+    /// Keeps the events that happen at the host.
+    pub log: J,
+}
+
 /// Works at a host until it is told to stop, or, if `plan.until_halt` is set, until its guest is halted here. What the
-/// guest sends while it is here goes to `output`. Reports once, to `errors`, that the guest is halted. Fails, before
-/// anything is written to `output`, if no random number can be drawn, memory runs out, or the system starts no thread.
+/// guest sends while it is here goes to `output`, and the events that happen at the host to `start.log`. Reports once,
+/// to `errors`, that the guest is halted. Fails, before anything is written to `output`, if no random number can be
+/// drawn, memory runs out, or the system starts no thread.
 pub fn work_at<
     M: PagedMemory + Drop + Send,
+    J: EventLog + Drop + Send,
     O: Write,
     E: Write,
     R: Net + Threads + Wait + Clock + RandomSource + Sync,
@@ -69,19 +83,20 @@ pub fn work_at<
     rt: &R,
     alloc: Global,
     plan: &HostPlan<'_, R::Listener>,
-    secret: Secret,
-    guest: Option<Debugged<M>>,
+    start: HostStart<M, J>,
     output: &mut O,
     errors: &mut E,
 ) -> Result<HartsEnd, HostFault>
 where
     R::Stream: Send,
     R::Listener: Send + Sync,
+    requires { IsEmpty (J.kept start.log) }
     ensures shown { IfOk result (λ end. end ≢ ConsoleFault
-        → HasWorked (opening_of guest plan.now.id (length plan.now.peers.now)) end (O.contents output.old)
+        → HasWorked (opening_of start.guest plan.now.id (length plan.now.peers.now)) end (O.contents output.old)
         (O.contents output.new)) }
     ensures unbegun { IfErr result (λ fault. O.contents output.new ≡ O.contents output.old) }
 {
+    let HostStart { guest, secret, log } = start;
     let hosts = plan.peers.count() as u8;
     let has_guest = guest.is_some();
     let Ok(host) = Host::with_version(guest, plan.id, hosts, MAX_PAGES as u16, STREAM_VERSION)
@@ -92,8 +107,12 @@ where
         drop(host);
         return Err(HostFault::NoRandom);
     };
-    let known = Known { registry, secret };
-    host_over::<Brand, M, O, E, R>(rt, alloc, host, plan, known, output, errors)
+    let beside = Beside {
+        registry,
+        secret,
+        log,
+    };
+    host_over::<Brand, M, J, O, E, R>(rt, alloc, host, plan, beside, output, errors)
 }
 
 /// Draws a number at random, from 1 on.
@@ -116,17 +135,20 @@ fn new_registry<R: RandomSource>(
     Ok(Registry::new(host, hosts, process, world))
 }
 
-/// What a host knows of its world at its start, and the secret.
+/// What a process has at its start beside its host.
 #[derive(Drop)]
-struct Known {
+struct Beside<J: EventLog + Drop> {
+    /// What the host knows of its world.
     registry: Registry,
     secret: Secret,
+    log: J,
 }
 
 /// Makes what the threads of the process share, puts the host under a lock, and works at it.
 fn host_over<
     L: Opening + Send + Sync,
     M: PagedMemory + Drop + Send,
+    J: EventLog + Drop + Send,
     O: Write,
     E: Write,
     R: Net + Threads + Wait + Clock + RandomSource + Sync,
@@ -135,26 +157,32 @@ fn host_over<
     alloc: Global,
     host: Host<M>,
     plan: &HostPlan<'_, R::Listener>,
-    known: Known,
+    beside: Beside<J>,
     output: &mut O,
     errors: &mut E,
 ) -> Result<HartsEnd, HostFault>
 where
     R::Stream: Send,
     R::Listener: Send + Sync,
-    requires { host ≡ L.opening }
+    requires host { host ≡ L.opening }
+    requires log { IsEmpty (J.kept beside.log) }
     ensures shown { IfOk result (λ end. end ≢ ConsoleFault
         → HasWorked L.opening end (O.contents output.old) (O.contents output.new)) }
     ensures unbegun { IfErr result (λ fault. O.contents output.new ≡ O.contents output.old) }
 {
-    let process = match new_process::<Of<L>, R>(alloc, plan, known) {
+    let Beside {
+        registry,
+        secret,
+        log,
+    } = beside;
+    let process = match new_process::<Of<L>, R>(alloc, plan, registry, secret) {
         Ok(process) => process,
         Err(error) => {
             drop(host);
             return Err(HostFault::from(error));
         }
     };
-    let cell = HostCell::<L, M>::new(host);
+    let cell = HostCell::<L, M, J>::new(host, log);
     work_in(rt, &cell, &process, plan, output, errors)
 }
 
@@ -162,12 +190,13 @@ where
 fn work_in<
     L: Opening + Send + Sync,
     M: PagedMemory + Drop + Send,
+    J: EventLog + Drop + Send,
     O: Write,
     E: Write,
     R: Net + Threads + Wait + Clock + RandomSource + Sync,
 >(
     rt: &R,
-    cell: &HostCell<L, M>,
+    cell: &HostCell<L, M, J>,
     process: &Process<Of<L>, R::Stream>,
     plan: &HostPlan<'_, R::Listener>,
     output: &mut O,
@@ -212,9 +241,9 @@ where
 fn new_process<L: Hosting, R: Net>(
     alloc: Global,
     plan: &HostPlan<'_, R::Listener>,
-    known: Known,
+    registry: Registry,
+    secret: Secret,
 ) -> Result<Process<L, R::Stream>, AllocError> {
-    let Known { registry, secret } = known;
     let hosts = plan.peers.count() as u8;
     let mut doors = Vec::new(alloc);
     for _host in 0..hosts {

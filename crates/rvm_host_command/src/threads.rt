@@ -9,7 +9,7 @@ use crate::hosting::HostPlan;
 use crate::peer::peer_worker;
 use crate::process::Process;
 use crate::ticker::ticker;
-use rvm_cell::{CellAccess, HostCell, Hosting, Of, Opening, Task};
+use rvm_cell::{CellAccess, EventLog, HostCell, Hosting, Of, Opening, Task};
 use rvm_mem::PagedMemory;
 use std::net::Net;
 use std::random::RandomSource;
@@ -26,11 +26,12 @@ const CONTROLS: u32 = 4;
 pub(crate) fn work_beside<
     L: Opening + Send + Sync,
     M: PagedMemory + Drop + Send,
+    J: EventLog + Drop + Send,
     R: Net + Threads + Wait + Clock + RandomSource + Sync,
     T: Task + Drop,
 >(
     rt: &R,
-    cell: &HostCell<L, M>,
+    cell: &HostCell<L, M, J>,
     process: &Process<Of<L>, R::Stream>,
     plan: &HostPlan<'_, R::Listener>,
     task: T,
@@ -49,7 +50,7 @@ where
         thread::scope_env(),
         rt,
         move |scope| -> Result<T::Output, T>
-            requires { (IsSync R.row × IsSend M.row × IsSend R.Stream.row × IsSync R.Listener.row) × T.can_run task }
+            requires { (IsSync R.row × IsSend M.row × IsSend J.row × IsSend R.Stream.row × IsSync R.Listener.row) × T.can_run task }
             ensures { IfOk result (T.gives task) × IfErr result (λ t. t ≡ task) }
         {
             let mut begun = scope.spawn(move || accepter(rt, process, hosts)).is_ok();

@@ -6,7 +6,7 @@ ghost use Rattle.rvm_cell.specs.declared.host_harts.HartsEnd.TheVariants.{Consol
 
 use crate::process::Process;
 use rvm_cell::{
-    CellAccess, HartsEnd, HostCell, Hosting, InputQueue, Of, Opening, Task, harts_worker,
+    CellAccess, EventLog, HartsEnd, HostCell, Hosting, InputQueue, Of, Opening, Task, harts_worker,
 };
 use rvm_mem::PagedMemory;
 use std::io::{Read, Write};
@@ -28,13 +28,14 @@ pub(crate) struct Turns<
     't,
     L: Opening,
     M: PagedMemory + Drop,
+    J: EventLog + Drop,
     S: Read + Write + OpenStream + Drop,
     O: Write,
     E: Write,
     R: Wait + Clock,
 > {
     pub(crate) rt: &'t R,
-    pub(crate) cell: &'t HostCell<L, M>,
+    pub(crate) cell: &'t HostCell<L, M, J>,
     pub(crate) process: &'t Process<Of<L>, S>,
     pub(crate) input: &'t InputQueue,
     pub(crate) output: &'t mut O,
@@ -45,11 +46,12 @@ impl<
     't,
     L: Opening,
     M: PagedMemory + Drop,
+    J: EventLog + Drop,
     S: Read + Write + OpenStream + Drop,
     O: Write,
     E: Write,
     R: Wait + Clock,
-> Task for Turns<'t, L, M, S, O, E, R> {
+> Task for Turns<'t, L, M, J, S, O, E, R> {
     type Output = (HartsEnd, &'t mut O);
 
     ghost can_run = { λ _. ⊤ };

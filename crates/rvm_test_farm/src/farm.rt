@@ -6,10 +6,10 @@ use crate::breaker::{Breaker, carry_and_break};
 use crate::screen::{ClosedConsole, Console};
 use rvm_arguments::GuestArguments;
 use rvm_board::Debugged;
-use rvm_cell::InputQueue;
+use rvm_cell::{InputQueue, NoLog};
 use rvm_command::guest::load_guest;
 use rvm_greeting::{Secret, read_peers};
-use rvm_host_command::hosting::{HostPlan, work_at};
+use rvm_host_command::hosting::{HostPlan, HostStart, work_at};
 use rvm_host_command::operators::Operators;
 use rvm_paged::PagedRam;
 use std::alloc::Global;
@@ -156,15 +156,17 @@ where
         rate: None,
         until_halt: false,
     };
-    let secret = Secret::new(secret);
     let mut errors = Vec::new(alloc);
-    let guest = guest_of(alloc, id, farm.image)?;
-    let _end = work_at::<PagedRam, O, Vec<u8>, R>(
+    let start = HostStart {
+        guest: guest_of(alloc, id, farm.image)?,
+        secret: Secret::new(secret),
+        log: NoLog,
+    };
+    let _end = work_at::<PagedRam, NoLog, O, Vec<u8>, R>(
         rt,
         alloc,
         &plan,
-        secret,
-        guest,
+        start,
         console,
         &mut errors,
     );

@@ -1,9 +1,9 @@
-//! A host under its lock.
+//! A host under its lock, and the log of its events.
 
 ghost use Rattle.std.specs.Prelude.{◌≡◌};
 
 use rvm_board::{Board, Debugged};
-use rvm_cell::{HostCell, Opening, Slice, Then};
+use rvm_cell::{EventLog, HostCell, NoLog, Opening, Slice, Then};
 use rvm_frame::Frame;
 use rvm_hart::RAM_BASE;
 use rvm_host::{Host, ModeKind};
@@ -14,6 +14,7 @@ use std::alloc::Global;
 use std::marker::Brand;
 use std::process::Abort;
 use std::sync::Wait;
+use std::sync::atomic::{AtomicU64, Ordering};
 use std::test::Fail;
 
 /// `jal zero, 0`.
@@ -29,7 +30,80 @@ fn guest(alloc: Global) -> Result<Debugged<FlatMemory>, Fail> {
     }
 }
 
-/// Plays a move that begins and is given up, under the lock of a host that has a guest and is host 0 of two.
+/// What a log was told to keep: a letter for each event, the newest in the lowest byte, and the number of turns.
+/// Consecutive turns have one letter.
+#[derive(Drop)]
+struct Notes {
+    letters: AtomicU64,
+    turns: AtomicU64,
+}
+
+impl Notes {
+    /// Nothing yet.
+    fn new() -> Notes {
+        Notes {
+            letters: AtomicU64::new(0),
+            turns: AtomicU64::new(0),
+        }
+    }
+
+    /// Notes an event.
+    fn note(&self, letter: u8) {
+        let before = self.letters.load(Ordering::SeqCst);
+        self.letters.store(
+            before.wrapping_mul(256) | u64::from(letter),
+            Ordering::SeqCst,
+        );
+    }
+
+    /// Notes turns, if these are the next turns of one hart.
+    fn note_turns(&self, turn: u64, harts: u32, count: u32) {
+        let before = self.turns.load(Ordering::SeqCst);
+        if harts != 1 || turn != before {
+            self.note(b'?');
+        } else if self.letters.load(Ordering::SeqCst) % 256 != u64::from(b'T') {
+            self.note(b'T');
+        }
+        self.turns
+            .store(before.wrapping_add(u64::from(count)), Ordering::SeqCst);
+    }
+
+    /// Whether just these events were noted, and this many turns.
+    fn are(&self, letters: [u8; 8], turns: u64) -> bool {
+        self.letters.load(Ordering::SeqCst) == u64::from_be_bytes(letters)
+            && self.turns.load(Ordering::SeqCst) == turns
+    }
+}
+
+/// A log that the test looks at.
+#[derive(Drop)]
+struct Noted<'n> {
+    notes: &'n Notes,
+}
+
+impl<'n> EventLog for Noted<'n> {
+    fn command(&mut self, command: &Command) {
+        self.notes.note(match command {
+            Command::Begin { to: 1, .. } => b'B',
+            Command::Abort => b'A',
+            _ => b'?',
+        });
+    }
+
+    fn came(&mut self, from: u8, frame: &Frame) {
+        self.notes.note(match (from, frame) {
+            (1, Frame::Accept { move_number: 1 }) => b'F',
+            _ => b'?',
+        });
+    }
+
+    fn turns(&mut self, turn: u64, harts: u32, count: u32) {
+        self.notes.note_turns(turn, harts, count);
+    }
+}
+
+/// Plays a move that begins and is given up, under the lock of a host that has a guest and is host 0 of two. Looks at
+/// what its log was told to keep.
 fn play<L: Opening, R: Abort + Wait>(
     rt: &R,
     alloc: Global,
@@ -37,7 +111,8 @@ fn play<L: Opening, R: Abort + Wait>(
 ) -> Result<(), Fail>
     requires { host ≡ L.opening }
 {
-    let cell: HostCell<L, FlatMemory> = HostCell::new(host);
+    let notes = Notes::new();
+    let cell: HostCell<L, FlatMemory, Noted<'_>> = HostCell::new(host, Noted { notes: &notes });
     let slice = Slice {
         made: 100,
         then: Then::GoOn,
@@ -58,6 +133,7 @@ fn play<L: Opening, R: Abort + Wait>(
     assert!(rt; aborted == HostReply::Aborted);
     assert!(rt; abort.is_some());
     assert!(rt; cell.slice(rt, 100, 100) == slice);
+    assert!(rt; notes.are(*b"\0\0\0TBFAT", 200));
     Ok(())
 }
 
@@ -77,7 +153,7 @@ fn play_empty<L: Opening, R: Abort + Wait>(
 ) -> Result<(), Fail>
     requires { host ≡ L.opening }
 {
-    let cell: HostCell<L, FlatMemory> = HostCell::new(host);
+    let cell: HostCell<L, FlatMemory, NoLog> = HostCell::new(host, NoLog);
     let slice = cell.slice(rt, 0, 100);
     assert!(rt; slice.made == 0 && slice.then == Then::Elsewhere);
     let offer = Frame::Offer {

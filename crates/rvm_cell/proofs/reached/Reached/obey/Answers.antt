@@ -1,14 +1,16 @@
-use Rattle.rvm_message.specs.Events.{command_of}
-use Rattle.rvm_protocol.specs.Commands as commands
-use Rattle.rvm_cell.proofs.Events.{called, made_in}
+use Rattle.rvm_message.specs.declared.event.HostEvent.TheVariants.{Do}
+use Rattle.rvm_message.specs.Events.{event_of}
+use Rattle.rvm_cell.proofs.Events.{made_in}
+use Rattle.rvm_cell.proofs.Logs.{one_kept}
 use Rattle.rvm_cell.proofs.reached.Reached.obey.Goals as goal
 
 pub handed_out-requires : goal.handed_out-requires
 handed_out-requires g c =
-    made_in g.L.Opening.opening c.self.inside.host c.obey.new.self (commands.Do (command_of c.args.command.now)) c.in-Ok.reply
-    c.in-Ok.frame c.self.invariant c.in-Ok.ensures.steps
+    made_in g.L.Opening.opening c.self.inside.host c.obey.new.self (event_of (Do c.args.command.now)) c.in_ok-reply.reply
+    c.in_ok-reply.frame c.self.invariant.reached c.in_ok-reply.ensures.steps
 
-pub invariant_of-self : goal.invariant_of-self
-invariant_of-self g c =
-    called g.L.Opening.opening c.self.inside.host c.obey.new.self (commands.Do (command_of c.args.command.now)) c.obey.result
-    c.self.invariant c.obey.ensures.steps c.obey.ensures.err
+pub invariant_of-self-2 : goal.invariant_of-self-2
+invariant_of-self-2 g c =
+    one_kept g.L.Opening.opening c.self.inside.host c.obey.new.self (g.J.EventLog.kept c.self.inside.log)
+    (g.J.EventLog.kept c.command.new.self) (Do c.args.command.now) (c.in_ok-reply.reply, c.in_ok-reply.frame)
+    c.self.invariant c.in_ok-reply.ensures.steps c.command.ensures

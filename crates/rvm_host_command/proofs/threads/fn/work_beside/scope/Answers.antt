@@ -8,8 +8,9 @@ spawn-requires-send-F g c κs within =
     let heap = send in
     let rt = c.requires.0.0 in
     let memory = c.requires.0.1 in
-    let stream = c.requires.0.2 in
-    let listener = c.requires.0.3 in
+    let log = c.requires.0.2 in
+    let stream = c.requires.0.3 in
+    let listener = c.requires.0.4 in
     search (host_send, sendable, crosses) depth 80 fits 80000
 
 pub spawn-requires-then-begun-send-F : goal.spawn-requires-then-begun-send-F
@@ -17,8 +18,9 @@ spawn-requires-then-begun-send-F g c κs within =
     let heap = send in
     let rt = c.requires.0.0 in
     let memory = c.requires.0.1 in
-    let stream = c.requires.0.2 in
-    let listener = c.requires.0.3 in
+    let log = c.requires.0.2 in
+    let stream = c.requires.0.3 in
+    let listener = c.requires.0.4 in
     search (host_send, sendable, crosses) depth 80 fits 80000
 
 pub spawn-requires-then-begun-2-send-F : goal.spawn-requires-then-begun-2-send-F
@@ -26,8 +28,9 @@ spawn-requires-then-begun-2-send-F g c κs within =
     let heap = send in
     let rt = c.requires.0.0 in
     let memory = c.requires.0.1 in
-    let stream = c.requires.0.2 in
-    let listener = c.requires.0.3 in
+    let log = c.requires.0.2 in
+    let stream = c.requires.0.3 in
+    let listener = c.requires.0.4 in
     search (host_send, sendable, crosses) depth 80 fits 80000
 
 pub spawn-requires-then-begun-3-send-F : goal.spawn-requires-then-begun-3-send-F
@@ -35,6 +38,7 @@ spawn-requires-then-begun-3-send-F g c κs within =
     let heap = send in
     let rt = c.requires.0.0 in
     let memory = c.requires.0.1 in
-    let stream = c.requires.0.2 in
-    let listener = c.requires.0.3 in
+    let log = c.requires.0.2 in
+    let stream = c.requires.0.3 in
+    let listener = c.requires.0.4 in
     search (host_send, sendable, crosses) depth 80 fits 80000
