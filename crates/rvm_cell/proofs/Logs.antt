@@ -1,7 +1,7 @@
 -- What a log kept after one more call of its host.
 use Rattle.std.proofs.Common.{◌≡◌, ◌∙◌, ℕ, zero, suc, ◌+◌, ◌-◌, ◌^◌, ◌<◌, ◌≤◌, ◌%◌, List, [], ◌∷◌, ◌++◌, Option, None, Some, true, map, ap, arith, refl, subst, sym}
 use Rattle.std.proofs.lemmas.Grind.{fold-append}
-use Rattle.std.proofs.lemmas.List.{map-append}
+use Rattle.std.proofs.lemmas.List.{append-nil, map-append}
 use Rattle.std.specs.List.{fold}
 use Rattle.std.specs.Prelude.{is_some}
 use Rattle.rvm_board.specs.declared.retiring.Retired as told
@@ -129,3 +129,14 @@ turns_kept o old new before now harts turn count made was h keeps = record {
   told = kept_on o old new before now (steps_from turn harts (made_in made)) was.told keeps
       (last_led o harts made.count turn made.last old h.between new was.reached h.retired h.last);
 }
+
+-- a host whose log kept nothing more
+pub same_kept : (o h : PlainHost) (before now : Option (List HostEvent)) → IsLogged before o h → KeepsOn before now []
+    → IsLogged now o h
+same_kept o h before now was keeps =
+    record { reached = was.reached; told = kept_on o h h before now [] was.told keeps refl }
+
+-- nothing is kept
+pub nothing_kept : (kept : Option (List HostEvent)) → KeepsOn kept kept []
+nothing_kept None = refl
+nothing_kept (Some kept) = sym (append-nil kept)

@@ -17,6 +17,7 @@ use rvm_host::{Host, HostStatus};
 use rvm_link::Made;
 use rvm_mem::PagedMemory;
 use rvm_message::{Command, HostReply};
+use rvm_refusal::LinkFault;
 use std::alloc::{AllocError, Global};
 use std::sync::{Mutex, Wait};
 
@@ -87,6 +88,11 @@ impl<L: Opening, M: PagedMemory + Drop, J: EventLog + Drop> HostCell<L, M, J> {
         ensures halted { HaltsSo (IsAnswer L.opening) result.then }
     {
         make_slice(&mut self.lock.lock(rt), turn, count)
+    }
+
+    /// Hands what was kept of the events at the host to whoever reads it. `LinkFault` if it is not all that happened.
+    pub fn finish<R: Wait>(&self, rt: &R) -> Result<(), LinkFault> {
+        self.lock.lock(rt).finish()
     }
 
     /// The status of the host at the time of the call.

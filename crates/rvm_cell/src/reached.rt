@@ -21,6 +21,7 @@ use rvm_host::{Host, HostStatus};
 use rvm_link::Made;
 use rvm_mem::PagedMemory;
 use rvm_message::{Command, HostReply, StepReply};
+use rvm_refusal::LinkFault;
 use std::alloc::{AllocError, Global};
 use std::marker::{Model, PhantomData};
 
@@ -130,6 +131,13 @@ impl<L: Opening, M: PagedMemory + Drop, J: EventLog + Drop> Reached<L, M, J> {
         ensures bound { IfSome result (λ n. (0 < n) × (n ≤ 8)) }
     {
         self.host.harts()
+    }
+
+    /// Hands what was kept to whoever reads it. `LinkFault` if it is not all that happened.
+    pub(crate) fn finish(&mut self) -> Result<(), LinkFault>
+        ensures { self.new ≡ self.old }
+    {
+        self.log.finish()
     }
 
     /// The status of the host.

@@ -36,6 +36,9 @@ pub enum HostFault {
     /// No random number can be drawn.
     #[error("no random number can be drawn")]
     NoRandom,
+    /// The first line of the journal cannot be written.
+    #[error("--journal: the file cannot be written")]
+    NoJournal,
 }
 
 /// Which of the addresses it is.

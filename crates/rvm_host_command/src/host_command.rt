@@ -2,23 +2,26 @@
 
 ghost use Rattle.std.specs.Prelude.{◌≡◌, ◌≢◌, ◌≤◌, ◌⊎◌, IfErr, IfOk, true};
 ghost use Rattle.rvm_host_command.specs.Hosted.{HasBegun, IsGuestOf, IsHosted, IsHostedTo, IsNamed, host_status, status_told};
+ghost use Rattle.std.specs.Option.{option_and_then};
 ghost use Rattle.rvm_cell.specs.Logs.{IsEmpty};
 ghost use Rattle.rvm_cell.specs.declared.host_harts.HartsEnd.TheVariants.{ConsoleFault};
 
 use crate::address::{checked_address, is_path, listen_at, listen_for_operators};
 use crate::answers::letter_of;
 use crate::fault::{HostFault, Place};
-use crate::hosting::{HostPlan, HostStart, work_at};
+use crate::hosting::{HostPlan, HostStart, Numbers, draw_numbers, work_at};
 use crate::operators::Operators;
-use rvm_arguments::HostArguments;
+use rvm_arguments::{GuestArguments, HostArguments};
 use rvm_board::Debugged;
-use rvm_cell::{EventLog, HartsEnd, InputQueue};
+use rvm_cell::{HartsEnd, InputQueue};
 use rvm_command::guest::load_guest;
 use rvm_greeting::{Peers, Secret, read_peers};
+use rvm_journal::{Header, Image, JournalWriter};
 use rvm_mem::PagedMemory;
 use rvm_refusal::LinkFault;
 use std::alloc::Global;
 use std::fs;
+use std::fs::File;
 use std::io::Write;
 use std::net::{Net, OpenListener};
 use std::random::RandomSource;
@@ -41,25 +44,14 @@ pub struct HostBytes<'a> {
     pub secret: Option<&'a [u8]>,
 }
 
-/// What goes into a host beside the bytes of its files, and where its events are kept.
-#[derive(Drop)]
-pub struct Attached<'a, J: EventLog + Drop> {
-    /// The bytes that go to the guest's console while it is here.
-    pub input: &'a InputQueue,
-    /// Keeps the events that happen at the host.
-    pub log: J,
-}
-
 /// Works at a host until an operator ends it, or, if `arguments.until_halt` is set, until its guest has halted here.
-/// The bytes of `attached.input` go to the guest's console while the guest is here, what the guest sends goes to
-/// `output`, and the events that happen at the host go to `attached.log`.
+/// The bytes of `input` go to the guest's console while the guest is here, and what the guest sends goes to `output`.
 ///
 /// Returns the status: 1 if the host does not begin or the console cannot be written, and then `errors` says why. If a
 /// verdict is asked for, it is 3 if the guest halted here with a status other than 0, which ended the host. Else it is
 /// 0. `LinkFault` if the report why the host does not begin cannot be written.
 pub fn host_command<
     M: PagedMemory + Drop + Send,
-    J: EventLog + Drop + Send,
     O: Write,
     E: Write,
     R: Files + Net + Threads + Wait + Clock + RandomSource + Sync,
@@ -68,21 +60,21 @@ pub fn host_command<
     alloc: Global,
     arguments: &HostArguments,
     files: &HostBytes<'_>,
-    attached: Attached<'_, J>,
+    input: &InputQueue,
     output: &mut O,
     errors: &mut E,
 ) -> Result<u8, LinkFault>
 where
     R::Stream: Send,
     R::Listener: Send + Sync,
-    requires { IsEmpty (J.kept attached.log) }
+    R::File: Send,
     ensures status { IfOk result (λ status. (status ≡ 0) ⊎ (status ≡ 1)
         ⊎ ((status ≡ 3) × (arguments.now.verdict ≡ true))) }
     ensures done { IfOk result (λ status. status ≢ 1 → IsHostedTo arguments.now files.now.peers.now files.now.image.now
         status (O.contents output.old) (O.contents output.new)) }
 {
     let verdict = arguments.verdict;
-    let ended = run_host::<M, J, O, E, R>(rt, alloc, arguments, files, attached, output, errors);
+    let ended = run_host::<M, O, E, R>(rt, alloc, arguments, files, input, output, errors);
     tell_end(ended, verdict, errors)
 }
 
@@ -121,7 +113,6 @@ fn status_of(end: HartsEnd, verdict: bool) -> u8
 /// random number can be drawn, memory runs out, or the system starts no thread.
 fn run_host<
     M: PagedMemory + Drop + Send,
-    J: EventLog + Drop + Send,
     O: Write,
     E: Write,
     R: Files + Net + Threads + Wait + Clock + RandomSource + Sync,
@@ -130,14 +121,14 @@ fn run_host<
     alloc: Global,
     arguments: &HostArguments,
     files: &HostBytes<'_>,
-    attached: Attached<'_, J>,
+    input: &InputQueue,
     output: &mut O,
     errors: &mut E,
 ) -> Result<HartsEnd, HostFault>
 where
     R::Stream: Send,
     R::Listener: Send + Sync,
-    requires { IsEmpty (J.kept attached.log) }
+    R::File: Send,
     ensures shown { IfOk result (λ end. end ≢ ConsoleFault → IsHosted arguments.now files.now.peers.now
         files.now.image.now end (O.contents output.old) (O.contents output.new)) }
     ensures unbegun { IfErr result (λ fault. O.contents output.new ≡ O.contents output.old) }
@@ -145,6 +136,9 @@ where
     let peers = read_peers(alloc, files.peers)?;
     let id = number_of(arguments.name, peers.count())?;
     let secret = secret_of(files.secret)?;
+    let Ok(numbers) = draw_numbers(rt, arguments.guest.is_some()) else {
+        return Err(HostFault::NoRandom);
+    };
     let only_loopback = files.secret.is_none();
     check_addresses(rt, &peers, only_loopback)?;
     let guest = load(alloc, arguments, files.image)?;
@@ -155,7 +149,7 @@ where
         peers: &peers,
         hosts: &hosts,
         operators: &operators,
-        input: attached.input,
+        input,
         patience: Duration::from_millis(u64::from(arguments.patience)),
         rate: arguments.rate,
         until_halt: arguments.until_halt,
@@ -164,13 +158,56 @@ where
     let start = HostStart {
         guest,
         secret,
-        log: attached.log,
+        numbers,
     };
-    let ended = work_at::<M, J, O, E, R>(rt, alloc, &plan, start, output, errors);
+    let log = begin_journal::<R::Listener, R>(rt, alloc, arguments, files.image, &plan, numbers);
+    let ended = match log {
+        Ok(log) => work_at::<M, Option<JournalWriter<R::File>>, O, E, R>(
+            rt, alloc, &plan, start, log, output, errors,
+        ),
+        Err(fault) => Err(fault),
+    };
     if is_path(arguments.control) {
         let _left = fs::remove_file(rt, arguments.control);
     }
     ended
+}
+
+/// The journal of a host, if it keeps one, with its first line. Fails with `NoJournal` if the file cannot be created or
+/// written.
+fn begin_journal<N: Drop, R: Files>(
+    rt: &R,
+    alloc: Global,
+    arguments: &HostArguments,
+    image: &[u8],
+    plan: &HostPlan<'_, N>,
+    numbers: Numbers,
+) -> Result<Option<JournalWriter<R::File>>, HostFault>
+    ensures { IfOk result (λ log. IsEmpty (option_and_then (λ j. j) log)) }
+{
+    let Some(path) = arguments.journal else {
+        return Ok(None);
+    };
+    let header = Header {
+        hosts: plan.peers.count() as u8,
+        host: plan.id,
+        process: numbers.process,
+        world: numbers.world,
+        guest: image_of(&arguments.guest, image),
+    };
+    let Ok(file) = File::create(rt, path) else {
+        return Err(HostFault::NoJournal);
+    };
+    match JournalWriter::new(alloc, file, &header) {
+        Ok(log) => Ok(Some(log)),
+        Err(_) => Err(HostFault::NoJournal),
+    }
+}
+
+/// The guest with which a host begins, if it begins with one, as a journal names it.
+fn image_of(guest: &Option<GuestArguments>, bytes: &[u8]) -> Option<Image> {
+    let guest = guest.as_ref()?;
+    Some(Image::of(guest.raw, guest.harts, guest.pages, bytes))
 }
 
 /// The number of the host with this name among `count` hosts: 0 for A. `NoSuchHost` if there is none.

@@ -20,6 +20,7 @@ use rvm_greeting::{Peers, Registry, Secret};
 use rvm_host::Host;
 use rvm_link::Routes;
 use rvm_mem::{MAX_PAGES, PagedMemory};
+use rvm_refusal::LinkFault;
 use std::alloc::{AllocError, Global};
 use std::io;
 use std::io::Write;
@@ -60,19 +61,28 @@ pub struct HostPlan<'a, N: Drop> {
 
 /// What a host process is given at its start, to keep.
 #[derive(Drop)]
-pub struct HostStart<M: PagedMemory + Drop, J: EventLog + Drop> {
+pub struct HostStart<M: PagedMemory + Drop> {
     /// The guest that begins here, if one does.
     pub guest: Option<Debugged<M>>,
     /// The secret of the hosts of the world.
     pub secret: Secret,
-    /// Keeps the events that happen at the host.
-    pub log: J,
+    /// What the process drew at its start.
+    pub numbers: Numbers,
+}
+
+/// What the process of a host draws at random at its start, from 1 on.
+#[derive(Clone, Copy, Debug, PartialEq, Eq)]
+pub struct Numbers {
+    /// The number of the process.
+    pub process: u64,
+    /// The number of the world, if the guest begins here; else 0.
+    pub world: u64,
 }
 
 /// Works at a host until it is told to stop, or, if `plan.until_halt` is set, until its guest is halted here. What the
-/// guest sends while it is here goes to `output`, and the events that happen at the host to `start.log`. Reports once,
-/// to `errors`, that the guest is halted. Fails, before anything is written to `output`, if no random number can be
-/// drawn, memory runs out, or the system starts no thread.
+/// guest sends while it is here goes to `output`, and the events that happen at the host to `log`. Reports once,
+/// to `errors`, that the guest is halted, and at the end, if it is so, that not all events were kept. Fails, before anything
+/// is written to `output`, if memory runs out, or the system starts no thread.
 pub fn work_at<
     M: PagedMemory + Drop + Send,
     J: EventLog + Drop + Send,
@@ -83,32 +93,32 @@ pub fn work_at<
     rt: &R,
     alloc: Global,
     plan: &HostPlan<'_, R::Listener>,
-    start: HostStart<M, J>,
+    start: HostStart<M>,
+    log: J,
     output: &mut O,
     errors: &mut E,
 ) -> Result<HartsEnd, HostFault>
 where
     R::Stream: Send,
     R::Listener: Send + Sync,
-    requires { IsEmpty (J.kept start.log) }
+    requires { IsEmpty (J.kept log) }
     ensures shown { IfOk result (λ end. end ≢ ConsoleFault
         → HasWorked (opening_of start.guest plan.now.id (length plan.now.peers.now)) end (O.contents output.old)
         (O.contents output.new)) }
     ensures unbegun { IfErr result (λ fault. O.contents output.new ≡ O.contents output.old) }
 {
-    let HostStart { guest, secret, log } = start;
+    let HostStart {
+        guest,
+        secret,
+        numbers,
+    } = start;
     let hosts = plan.peers.count() as u8;
-    let has_guest = guest.is_some();
     let Ok(host) = Host::with_version(guest, plan.id, hosts, MAX_PAGES as u16, STREAM_VERSION)
     else {
         return Err(HostFault::NoSuchHost);
     };
-    let Ok(registry) = new_registry(rt, plan.id, hosts, has_guest) else {
-        drop(host);
-        return Err(HostFault::NoRandom);
-    };
     let beside = Beside {
-        registry,
+        registry: Registry::new(plan.id, hosts, numbers.process, numbers.world),
         secret,
         log,
     };
@@ -122,17 +132,11 @@ fn draw_number<R: RandomSource>(rt: &R) -> io::Result<u64> {
     Ok(u64::from_le_bytes(bytes).max(1))
 }
 
-/// What the process of a host knows of its world at its start: a number that it draws for itself, and, if the guest
-/// begins here, one that it draws for the world.
-fn new_registry<R: RandomSource>(
-    rt: &R,
-    host: u8,
-    hosts: u8,
-    has_guest: bool,
-) -> io::Result<Registry> {
+/// What the process of a host draws at its start: a number for itself, and, if the guest begins here, one for the world.
+pub fn draw_numbers<R: RandomSource>(rt: &R, has_guest: bool) -> io::Result<Numbers> {
     let process = draw_number(rt)?;
     let world = if has_guest { draw_number(rt)? } else { 0 };
-    Ok(Registry::new(host, hosts, process, world))
+    Ok(Numbers { process, world })
 }
 
 /// What a process has at its start beside its host.
@@ -220,6 +224,7 @@ where
     match work_beside(rt, cell, process, plan, turns) {
         Ok((end, output)) => {
             take_back(output);
+            tell_kept(cell.finish(rt), errors);
             Ok(end)
         }
         Err(turns) => {
@@ -234,6 +239,16 @@ where
             take_back(output);
             Err(HostFault::OutOfMemory)
         }
+    }
+}
+
+/// Reports that not all events were kept, if it is so. What cannot be written is lost.
+fn tell_kept<E: Write>(kept: Result<(), LinkFault>, errors: &mut E) {
+    if kept.is_err() {
+        let _untold = writeln!(
+            errors,
+            "the journal ended early: a line could not be written"
+        );
     }
 }
 

@@ -1,5 +1,6 @@
 -- What is kept after one more event.
-use Rattle.std.proofs.Common.{◌≡◌, List, ◌++◌, Option, Some, None, refl, subst, sym}
+use Rattle.std.proofs.Common.{◌≡◌, List, [], ◌++◌, Option, Some, None, refl, subst, sym}
+use Rattle.std.proofs.lemmas.List.{append-nil}
 use Rattle.rvm_message.specs.declared.event.HostEvent.{HostEvent}
 use Rattle.rvm_cell.specs.Logs.{KeepsOn}
 use Rattle.rvm_journal.specs.Written.{with_more}
@@ -16,3 +17,9 @@ keeps_on old new events is = subst (λ o. KeepsOn old o events) (sym is) (more o
 pub lost : (old : Option (List HostEvent)) (events : List HostEvent) → KeepsOn old None events
 lost None events = refl
 lost (Some old) events = tt
+
+-- all that was kept before is kept
+pub keeps_all : (old new : Option (List HostEvent)) → new ≡ old → KeepsOn old new []
+keeps_all None new is = is
+keeps_all (Some old) None is = tt
+keeps_all (Some old) (Some new) is = subst (λ o. KeepsOn (Some old) o []) (sym is) (sym (append-nil old))

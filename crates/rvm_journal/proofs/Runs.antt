@@ -1,9 +1,11 @@
 -- Turns of harts, by the hart of the first turn.
-use Rattle.std.proofs.Common.{◌≡◌, ◌∙◌, ℕ, zero, suc, ◌+◌, ◌%◌, List, ◌∷◌, ◌++◌, refl, sym, ap, subst, arith}
+use Rattle.std.proofs.Common.{◌≡◌, ◌∙◌, ℕ, zero, suc, ◌+◌, ◌%◌, List, ◌∷◌, ◌++◌, Option, None, Some, refl, sym, ap, subst, arith}
+use Rattle.std.proofs.lemmas.List.{append-nil}
 use native.Mathlib.Nat.{add-mod, mod-add-mod}
 use Rattle.rvm_message.specs.declared.event.HostEvent.{HostEvent}
 use Rattle.rvm_message.specs.Exchanges.{step_of_hart}
 use Rattle.rvm_cell.specs.Logs.{steps_from}
+use Rattle.rvm_journal.specs.Written.{with_more}
 
 -- the turn after one of the same hart is one of the same hart
 next_same : (h s t : ℕ) → s % h ≡ t % h → (s + 1) % h ≡ (t + 1) % h
@@ -63,3 +65,9 @@ joined first count harts more_first more_harts more same next =
     ∙ ap (λ l. steps_from first harts count ++ l) (sym (of_turn (first + count) harts more))
     ∙ ap (λ x. steps_from first harts count ++ steps_from x harts more) next
     ∙ ap (λ x. steps_from first harts count ++ steps_from more_first x more) same
+
+-- what was kept, and no turns after it
+pub no_turns : (turn harts : ℕ) (known : Option (List HostEvent)) → with_more known (steps_from turn harts 0) ≡ known
+unfolding steps_from
+no_turns turn harts None = refl
+no_turns turn harts (Some kept) = ap (λ l. Some l) (append-nil kept)

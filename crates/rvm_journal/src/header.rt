@@ -1,8 +1,10 @@
 //! The first line of a journal.
 
-ghost use Rattle.std.specs.Prelude.{◌≤◌, ◌<◌};
+ghost use Rattle.std.specs.Prelude.{◌≡◌};
+ghost use Rattle.sha2.specs.Sha256.{sha256};
 
 use rvm_refusal::LinkFault;
+use sha2::{Digest, Sha256};
 use std::alloc::Global;
 use std::io::Write;
 
@@ -32,6 +34,21 @@ pub struct Image {
     pub pages: u32,
     /// The SHA-256 of the bytes of the file.
     pub digest: [u8; 32],
+}
+
+impl Image {
+    /// The guest of a board with so many harts and pages, whose image is a file with these bytes.
+    pub fn of(raw: bool, harts: u32, pages: u32, bytes: &[u8]) -> Image
+        ensures digest { result.digest ≡ sha256 bytes.now }
+        ensures board { (result.raw ≡ raw) × (result.harts ≡ harts) × (result.pages ≡ pages) }
+    {
+        Image {
+            raw,
+            harts,
+            pages,
+            digest: Sha256::digest(bytes),
+        }
+    }
 }
 
 /// The text of a header, without a line feed: `journal 1`, the letter of the host and the number of hosts, the numbers of

@@ -45,22 +45,6 @@ impl<W: Write + Drop> JournalWriter<W> {
         Ok(JournalWriter { file: Some(file) })
     }
 
-    /// Whether the journal ended before its host did: since a line could not be written, or memory ran out.
-    pub fn has_ended(&self) -> bool {
-        self.file.is_none()
-    }
-
-    /// Writes the turns that have no line yet, and ends the journal. `LinkFault` if they cannot be written, or if the
-    /// journal had ended.
-    pub fn finish(self) -> Result<(), LinkFault> {
-        match self.file {
-            Some(file) => {
-                let _flushed = file.flush()?;
-                Ok(())
-            }
-            None => Err(LinkFault),
-        }
-    }
 }
 
 impl<W: Write + Drop> EventLog for JournalWriter<W> {
@@ -79,6 +63,14 @@ impl<W: Write + Drop> EventLog for JournalWriter<W> {
 
     fn turns(&mut self, turn: u64, harts: u32, count: u32) {
         self.file = turned(self.file.take(), turn, harts, count);
+    }
+
+    fn finish(&mut self) -> Result<(), LinkFault> {
+        self.file = flushed(self.file.take());
+        match self.file {
+            Some(_) => Ok(()),
+            None => Err(LinkFault),
+        }
     }
 }
 
@@ -109,4 +101,12 @@ fn turned<W: Write + Drop>(
     ensures { KeepsOn (option_and_then kept_of file) (option_and_then kept_of result) (steps_from turn harts count) }
 {
     file?.turns(turn, harts, count).ok()
+}
+
+/// A journal all of whose turns have lines, unless it has ended, or ends since a line cannot be written.
+#[tactic(auto, using(crate::proofs::Keeping::keeps_all, crate::proofs::Keeping::lost))]
+fn flushed<W: Write + Drop>(file: Option<JournalFile<W>>) -> Option<JournalFile<W>>
+    ensures { KeepsOn (option_and_then kept_of file) (option_and_then kept_of result) [] }
+{
+    file?.flush().ok()
 }

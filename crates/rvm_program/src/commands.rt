@@ -20,13 +20,13 @@ use rvm_arguments::{
     AsmArguments, DebugArguments, DisArguments, GuestArguments, HostArguments, MoveArguments,
     RunArguments, ScriptArguments, TellArguments,
 };
-use rvm_cell::{InputQueue, NoLog, read_input as read_console_input};
+use rvm_cell::{InputQueue, read_input as read_console_input};
 use rvm_command::asm_command::asm_command;
 use rvm_command::debug_command::debug_command;
 use rvm_command::dis_command::dis_command;
 use rvm_command::run_command::run_command;
 use rvm_command::script_command::script_command;
-use rvm_host_command::host_command::{Attached, HostBytes, host_command};
+use rvm_host_command::host_command::{HostBytes, host_command};
 use rvm_host_command::tell_command::{LOST, connect_to, tell_command};
 use rvm_mem::PagedMemory;
 use rvm_move::audit_command::audit_command;
@@ -295,6 +295,7 @@ pub(crate) fn host<
 where
     Rt::Stream: Send,
     Rt::Listener: Send + Sync,
+    Rt::File: Send,
     ensures ended { IfOk result (λ status. HostEnded (F.bytes_of files.now) arguments.now status
         (written (O.contents output.old) (O.contents output.new))) }
 {
@@ -305,16 +306,12 @@ where
                 image: read.image.as_slice(),
                 secret: read.secret.as_deref(),
             };
-            let attached = Attached {
-                input: &read.input,
-                log: NoLog,
-            };
-            host_command::<M, NoLog, O, E, Rt>(
+            host_command::<M, O, E, Rt>(
                 rt,
                 rt.alloc(),
                 arguments,
                 &bytes,
-                attached,
+                &read.input,
                 output,
                 errors,
             )

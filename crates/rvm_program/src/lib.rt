@@ -66,6 +66,7 @@ pub fn perform<
 where
     Rt::Stream: Send,
     Rt::Listener: Send + Sync,
+    Rt::File: Send,
     ensures status { 3 < result → AreJudged (map S.text words.now) }
     ensures lost { result ≡ 3 → AreTelling (map S.text words.now) ⊎ AreJudged (map S.text words.now) }
     ensures fault { result ≡ 2 → (O.contents output.new ≡ O.contents output.old) ⊎ (ArePassingOn (map S.text words.now)
@@ -107,6 +108,7 @@ pub fn perform_over<
 where
     Rt::Stream: Send,
     Rt::Listener: Send + Sync,
+    Rt::File: Send,
     ensures status { 3 < result → AreJudged (map S.text words.now) }
     ensures lost { result ≡ 3 → AreTelling (map S.text words.now) ⊎ AreJudged (map S.text words.now) }
     ensures fault { result ≡ 2 → (O.contents output.new ≡ O.contents output.old) ⊎ (ArePassingOn (map S.text words.now)
@@ -147,6 +149,7 @@ fn do_command<
 where
     Rt::Stream: Send,
     Rt::Listener: Send + Sync,
+    Rt::File: Send,
     ensures status { 3 < result → IsJudged arguments.now }
     ensures lost { result ≡ 3 → IsTelling arguments.now ⊎ IsJudged arguments.now }
     ensures passed { result ≡ 2 → IsPassingOn arguments.now }
@@ -184,6 +187,7 @@ fn tell_end<
 where
     Rt::Stream: Send,
     Rt::Listener: Send + Sync,
+    Rt::File: Send,
     ensures told { IfOk result (λ status. HasEnded (F.bytes_of files.now) (F.created_of files.now) arguments.now
         status (I.remaining input.old) (written (O.contents output.old) (O.contents output.new))
         (written (E.contents errors.old) (E.contents errors.new))
@@ -217,6 +221,7 @@ fn begin<
 where
     Rt::Stream: Send,
     Rt::Listener: Send + Sync,
+    Rt::File: Send,
     ensures ended { IfOk result (λ told. IfOk told (λ status. HasEnded (F.bytes_of files.now) (F.created_of files.now) arguments.now status
         (I.remaining input.old) (written (O.contents output.old) (O.contents output.new))
         (written (E.contents errors.old) (E.contents errors.new)))) }

@@ -9,7 +9,7 @@ use rvm_board::Debugged;
 use rvm_cell::{InputQueue, NoLog};
 use rvm_command::guest::load_guest;
 use rvm_greeting::{Secret, read_peers};
-use rvm_host_command::hosting::{HostPlan, HostStart, work_at};
+use rvm_host_command::hosting::{HostPlan, HostStart, draw_numbers, work_at};
 use rvm_host_command::operators::Operators;
 use rvm_paged::PagedRam;
 use std::alloc::Global;
@@ -157,16 +157,18 @@ where
         until_halt: false,
     };
     let mut errors = Vec::new(alloc);
+    let guest = guest_of(alloc, id, farm.image)?;
     let start = HostStart {
-        guest: guest_of(alloc, id, farm.image)?,
+        numbers: draw_numbers(rt, guest.is_some())?,
         secret: Secret::new(secret),
-        log: NoLog,
+        guest,
     };
     let _end = work_at::<PagedRam, NoLog, O, Vec<u8>, R>(
         rt,
         alloc,
         &plan,
         start,
+        NoLog,
         console,
         &mut errors,
     );

@@ -10,6 +10,7 @@ use rvm_host::{Host, ModeKind};
 use rvm_mem::{FlatMemory, PagedMemory, write_bytes};
 use rvm_message::{Command, HostReply};
 use rvm_precopy::Policy;
+use rvm_refusal::LinkFault;
 use std::alloc::Global;
 use std::marker::Brand;
 use std::process::Abort;
@@ -99,6 +100,11 @@ impl<'n> EventLog for Noted<'n> {
 
     fn turns(&mut self, turn: u64, harts: u32, count: u32) {
         self.notes.note_turns(turn, harts, count);
+    }
+
+    fn finish(&mut self) -> Result<(), LinkFault> {
+        self.notes.note(b'E');
+        Ok(())
     }
 }
 
