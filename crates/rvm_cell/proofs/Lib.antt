@@ -17,4 +17,5 @@ pub mod HartSends
 pub mod SliceTurns
 pub mod Calls
 pub mod TurnExamples
+mod LogExamples
 pub mod Failing

@@ -22,7 +22,8 @@ pub trait EventLog {
     fn came(&mut self, from: u8, frame: &Frame)
         ensures { KeepsOn (kept self.old) (kept self.new) (Came from frame.now ∷ []) };
 
-    /// Keeps consecutive turns of this many harts, from turn `turn` on: as many steps, of one hart after the other.
+    /// Keeps `count` consecutive turns of this many harts, from turn `turn` on, which may be none: as many steps, of one
+    /// hart after the other.
     fn turns(&mut self, turn: u64, harts: u32, count: u32)
         ensures { KeepsOn (kept self.old) (kept self.new) (steps_from turn harts count) };
 
