@@ -11,7 +11,7 @@ use Rattle.rvm_debug.specs.Words.{lines}
 use Rattle.rvm_message.specs.declared.event.HostEvent.{HostEvent}
 use Rattle.rvm_journal.specs.declared.noted.Noted.{Noted}
 use Rattle.rvm_journal.specs.Noting.{events_of, noted_of}
-use Rattle.rvm_journal.specs.Told.{Told, at_header, digest_after, digest_behind, line_of, mark, marked, no_digest, text_in, told_by, told_from, told_in, told_of}
+use Rattle.rvm_journal.specs.Told.{Told, at_header, digest_after, digest_behind, header_told, line_of, mark, marked, no_digest, text_in, told_by, told_from, told_in, told_of}
 use Rattle.rvm_journal.specs.Written.{IsFile, IsTelling, IsWritten, Puts, is_empty, is_no_feed, told_at, with_more}
 use Rattle.rvm_cell.specs.Logs.{IsEmpty}
 use Rattle.rvm_journal.proofs.Lines.{alone, no_lines, one_line}
@@ -54,7 +54,8 @@ module _ (n h : ℕ) where
   behind_header : (ls : List (List ℕ)) (l : List ℕ) (t : Told) → told_of n h ls ≡ Some t
       → told_of n h (ls ++ l ∷ []) ≡ told_by n h t l
   behind_header [] l t e = cc
-  behind_header (first ∷ ls) l t e = behind l ls (at_header first) ∙ ap (option_and_then (λ u. told_by n h u l)) e
+  behind_header (first ∷ ls) l t e =
+      behind_one (header_told first) l ls (behind l ls) ∙ ap (option_and_then (λ u. told_by n h u l)) e
 
   told_lines : (bytes : List ℕ) → told_in n h bytes ≡ told_of n h (lines bytes)
   unfolding told_in
@@ -71,7 +72,7 @@ same_bytes : (xs : List ℕ) → bytes_eq xs xs ≡ true
 same_bytes [] = refl
 same_bytes (x ∷ xs) = grind (arith, nat_tests, same_bytes xs)
 
-module _ (n h : ℕ) (noted : Noted) (d text e : List ℕ) (size : length (mark e) ≡ 17)
+module _ (n h : ℕ) (d text e : List ℕ) (size : length (mark e) ≡ 17)
     (digest : e ≡ digest_after d (text ++ codes "\n")) where
   -- the line of this text
   abbrev line : List ℕ
@@ -91,10 +92,10 @@ module _ (n h : ℕ) (noted : Noted) (d text e : List ℕ) (size : length (mark 
       ∙ ap (λ x. Some x) text_is
 
   -- the line of a text tells what the text tells
-  tells : (events : List HostEvent) → noted_of n h text ≡ Some noted
+  tells : (noted : Noted) (events : List HostEvent) → noted_of n h text ≡ Some noted
       → told_by n h (record { digest = d; events = events }) line
       ≡ Some (record { digest = e; events = events ++ events_of noted })
-  tells events is =
+  tells noted events is =
       ap (λ m. option_map (λ x. record { digest = digest_behind d line; events = events ++ events_of x })
       (option_and_then (noted_of n h) m)) marked_is
       ∙ ap (option_map (λ x. record { digest = digest_behind d line; events = events ++ events_of x })) is
@@ -130,7 +131,7 @@ written n h noted d text e bytes after events is w p =
     let told =
     told_lines n h (bytes ++ (line ++ codes "\n")) ∙ ap (told_of n h) (ends bytes line p.one w.whole)
     ∙ behind_header n h (lines bytes) line (record { digest = d; events = events }) (sym (told_lines n h bytes) ∙ w.told)
-    ∙ tells n h noted d text e p.size p.digest events is in
+    ∙ tells n h d text e p.size p.digest noted events is in
     subst (λ b. IsWritten n h e b (events ++ events_of noted)) (sym marked)
     (record { whole = whole_with bytes line p.one w.whole; told = told })
 
@@ -177,9 +178,9 @@ module _ (n h : ℕ) (text e : List ℕ) where
       p.added ∙ ap (λ x. mark x ++ (text ++ codes "\n")) (sym p.digest) ∙ sym (append_assoc (mark e) text (codes "\n")) in
       let ends : lines (line ++ codes "\n") ≡ line ∷ [] = alone line p.one in
       let told : told_in n h (line ++ codes "\n") ≡ Some (record { digest = e; events = [] }) =
-      told_lines n h (line ++ codes "\n") ∙ ap (told_of n h) ends ∙ none n h (at_header line)
-      ∙ ap (λ x. Some (record { digest = x; events = [] }))
-      (ap (λ x. digest_after no_digest (x ++ codes "\n")) (behind_mark (mark e) text p.size) ∙ sym p.digest) in
+      told_lines n h (line ++ codes "\n") ∙ ap (told_of n h) ends ∙ one_told n h (header_told line)
+      ∙ ap (option_map (λ t. at_header line)) (marked_is n h no_digest text e p.size p.digest)
+      ∙ ap (λ x. Some (record { digest = x; events = [] })) (digest_is n h no_digest text e p.size p.digest) in
       let whole : (rest : List ℕ) → lines ((line ++ codes "\n") ++ rest) ≡ lines (line ++ codes "\n") ++ lines rest =
       λ rest. ap lines (append_assoc line (codes "\n") rest) ∙ one_line line rest p.one
       ∙ sym (ap (λ l. l ++ lines rest) ends) in

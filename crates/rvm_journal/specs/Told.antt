@@ -56,10 +56,14 @@ told_from n h t (l ∷ ls) = option_and_then (λ u. told_from n h u ls) (told_by
 abbrev pub at_header : (line : List ℕ) → Told
 at_header line = record { digest = digest_behind no_digest line; events = [] }
 
+-- what the first line tells; none if it does not show its own digest
+abbrev pub header_told : (line : List ℕ) → Option Told
+header_told line = option_map (λ text. at_header line) (marked no_digest line)
+
 -- what the lines of a journal tell, the first of which is its header's
 abbrev pub told_of : (hosts host : ℕ) → List (List ℕ) → Option Told
 told_of n h [] = None
-told_of n h (first ∷ ls) = told_from n h (at_header first) ls
+told_of n h (first ∷ ls) = option_and_then (λ t. told_from n h t ls) (header_told first)
 
 -- what the bytes of a journal tell of host `host` of this many hosts
 unfoldable pub told_in : (hosts host : ℕ) → (bytes : List ℕ) → Option Told
