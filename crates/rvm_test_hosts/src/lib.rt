@@ -11,7 +11,7 @@
 //! of frame in each mode, `declined` a guest that is too large, `strangers` frames that hosts do not wait for, `spent`
 //! the last move number, `worlds` lists of events and driven moves, `scripts` a script that is too long, `streams` the
 //! bytes of a move, cut in two at each place; `records` reads and writes records, `routes` sends frames to hosts, and
-//! `cells` plays events on a host under its lock; `names` has the public names that the names of the crates promise.
+//! `cells` plays events on a host under its lock; `journals` writes the journal of a host; `names` has the public names that the names of the crates promise.
 #![tactic(auto)]
 
 #[cfg(test)]
@@ -22,6 +22,8 @@ mod declined;
 mod frames;
 #[cfg(test)]
 mod hosts;
+#[cfg(test)]
+mod journals;
 #[cfg(test)]
 mod modes;
 pub mod names;
