@@ -67,7 +67,7 @@ impl Header {
 
 /// The number after the word `name`, if it is in this range; takes both words.
 fn field(words: &mut Words<'_>, name: &[u8], low: u64, high: u64) -> Option<u64>
-    ensures { MatchOption result (field name.now low high words.old ≡ None)
+    ensures number { MatchOption result (field name.now low high words.old ≡ None)
         (λ number. field name.now low high words.old ≡ Some (number, words.new)) }
     ensures range { IfSome result (λ number. (low ≤ number) × (number ≤ high)) }
 {
