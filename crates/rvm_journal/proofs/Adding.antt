@@ -31,7 +31,7 @@ module _ (n h : ℕ) where
   unfolding told_from
   more t l ls = refl
 
-  one_told : (o : Option Told) → option_and_then (λ u. told_from n h u []) o ≡ o
+  pub one_told : (o : Option Told) → option_and_then (λ u. told_from n h u []) o ≡ o
   one_told None = refl
   one_told (Some t) = none t
 
@@ -51,7 +51,7 @@ module _ (n h : ℕ) where
       ∙ ap (option_and_then (λ u. told_by n h u l)) (sym (more t x ls))
 
   -- the same of the lines of a journal, the first of which is the header's
-  behind_header : (ls : List (List ℕ)) (l : List ℕ) (t : Told) → told_of n h ls ≡ Some t
+  pub behind_header : (ls : List (List ℕ)) (l : List ℕ) (t : Told) → told_of n h ls ≡ Some t
       → told_of n h (ls ++ l ∷ []) ≡ told_by n h t l
   behind_header [] l t e = cc
   behind_header (first ∷ ls) l t e =

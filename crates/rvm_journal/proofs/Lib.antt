@@ -2,3 +2,5 @@ pub mod Runs
 pub mod Lines
 pub mod Adding
 pub mod Keeping
+pub mod Replayed
+mod HeaderExamples

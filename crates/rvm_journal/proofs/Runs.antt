@@ -20,7 +20,7 @@ same_first h (suc n) s t e =
     ∙ ap (λ l. step_of_hart (t % h) ∷ l) (same_first h n (s + 1) (t + 1) (next_same h s t e))
 
 -- a remainder is its own remainder
-twice : (m n : ℕ) → m % n % n ≡ m % n
+pub twice : (m n : ℕ) → m % n % n ≡ m % n
 twice m n =
     let low : m % n ≡ m % n + 0 = omega arith in
     let whole : m + 0 ≡ m = omega arith in

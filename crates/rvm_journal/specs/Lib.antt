@@ -1,3 +1,5 @@
 pub mod Noting
 pub mod Told
 pub mod Written
+pub mod Headers
+pub mod Replaying

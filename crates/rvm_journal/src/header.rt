@@ -1,8 +1,13 @@
 //! The first line of a journal.
 
-ghost use Rattle.std.specs.Prelude.{◌≡◌};
+ghost use Rattle.std.specs.Prelude.{◌≡◌, ◌≤◌, IfOk, IfSome, MatchOption, None, OnOk, Some};
+ghost use Rattle.std.specs.Io.KnownBytes.{Appends};
+ghost use Rattle.hex.specs.Hex.{decode_sized};
 ghost use Rattle.sha2.specs.Sha256.{sha256};
+ghost use Rattle.rvm_journal.specs.Headers.{digest_if, field, form_of, guest_in, guest_text, header_of, image_in, long_in, no_guest_in, ranged, text_of};
 
+use hex::decode_to_slice;
+use rvm_debug::Words;
 use rvm_refusal::LinkFault;
 use sha2::{Digest, Sha256};
 use std::alloc::Global;
@@ -51,24 +56,179 @@ impl Image {
     }
 }
 
-/// The text of a header, without a line feed: `journal 1`, the letter of the host and the number of hosts, the numbers of
-/// the process and of the world, and the guest.
-pub(crate) fn header_text(alloc: Global, header: &Header) -> Result<Vec<u8>, LinkFault> {
+impl Header {
+    /// Reads the text of a header, without the digest before it and without its line feed. None if it tells no header.
+    #[tactic(auto, unfolding(crate::specs::Headers::header_of))]
+    pub fn read(text: &[u8]) -> Option<Header>
+        ensures { result ≡ header_of text.now }
+    {
+        let mut words = Words::new(text);
+        let _version = field(&mut words, b"journal", 1, 1)?;
+        let host = field(&mut words, b"host", 0, 7)?;
+        let hosts = field(&mut words, b"of", 2, 8)?;
+        let process = field(&mut words, b"process", 0, u64::MAX)?;
+        let world = field(&mut words, b"world", 0, u64::MAX)?;
+        let guest = guest_in(words)?;
+        if host >= hosts {
+            return None;
+        }
+        Some(Header {
+            hosts: hosts as u8,
+            host: host as u8,
+            process,
+            world,
+            guest,
+        })
+    }
+}
+
+/// The number after the word `name`, if it is in this range; takes both words.
+fn field(words: &mut Words<'_>, name: &[u8], low: u64, high: u64) -> Option<u64>
+    ensures number { MatchOption result (field name.now low high words.old ≡ None)
+        (λ number. field name.now low high words.old ≡ Some (number, words.new)) }
+    ensures range { IfSome result (λ number. (low ≤ number) × (number ≤ high)) }
+{
+    let word = words.next()?;
+    let number = words.next()?;
+    if word != name {
+        return None;
+    }
+    ranged(number, low, high)
+}
+
+/// The number of a word of decimal digits, if it is in this range.
+fn ranged(word: &[u8], low: u64, high: u64) -> Option<u64>
+    ensures number { result ≡ ranged low high word.now }
+    ensures range { IfSome result (λ number. (low ≤ number) × (number ≤ high)) }
+{
+    let number = long_in(word)?;
+    if low <= number && number <= high {
+        Some(number)
+    } else {
+        None
+    }
+}
+
+/// The number of a word of decimal digits, if it is below 2^64.
+#[tactic(auto, unfolding(crate::specs::Headers::long_in))]
+fn long_in(word: &[u8]) -> Option<u64>
+    ensures { result ≡ long_in word.now }
+{
+    if word.is_empty() {
+        return None;
+    }
+    let mut number = 0u64;
+    for digit in word {
+        if !digit.is_ascii_digit() {
+            return None;
+        }
+        number = number.checked_mul(10)?.checked_add(u64::from(*digit - b'0'))?;
+    }
+    Some(number)
+}
+
+/// The guest that the last words of a header name.
+fn guest_in(words: Words) -> Option<Option<Image>>
+    ensures { result ≡ guest_in words.entry }
+{
+    let mut words = words;
+    let word = words.next()?;
+    if word == b"guest".as_slice() {
+        return Some(Some(image_in(words)?));
+    }
+    if word == b"without".as_slice() {
+        return no_guest_in(words);
+    }
+    None
+}
+
+/// No guest, by the only word after `without`.
+fn no_guest_in(words: Words) -> Option<Option<Image>>
+    ensures { result ≡ no_guest_in words.entry }
+{
+    let mut words = words;
+    let word = words.next()?;
+    if word == b"guest".as_slice() && words.is_empty() {
+        Some(None)
+    } else {
+        None
+    }
+}
+
+/// The image that words name: its form, the number of harts and of pages, and its digest.
+fn image_in(words: Words) -> Option<Image>
+    ensures { result ≡ image_in words.entry }
+{
+    let mut words = words;
+    let form = words.next()?;
+    let harts = words.next()?;
+    let pages = words.next()?;
+    let digest = words.next()?;
+    if !words.is_empty() {
+        return None;
+    }
+    Some(Image {
+        raw: form_of(form)?,
+        harts: ranged(harts, 1, 8)? as u32,
+        pages: ranged(pages, 1, 4096)? as u32,
+        digest: digest_of(digest)?,
+    })
+}
+
+/// Whether the word of a form says that an image is plain bytes.
+fn form_of(word: &[u8]) -> Option<bool>
+    ensures { result ≡ form_of word.now }
+{
+    if word == b"raw".as_slice() {
+        return Some(true);
+    }
+    if word == b"elf".as_slice() {
+        return Some(false);
+    }
+    None
+}
+
+/// The digest that a word spells in hexadecimal.
+fn digest_of(word: &[u8]) -> Option<[u8; 32]>
+    ensures { result ≡ digest_if (decode_sized word.now 32) }
+{
+    let mut digest = [0; 32];
+    match decode_to_slice(word, &mut digest) {
+        Ok(()) => Some(digest),
+        Err(_) => None,
+    }
+}
+
+/// The text of a header, without a line feed: `journal 1`, the number of the host and of all hosts, the numbers of the
+/// process and of the world, and the guest.
+pub(crate) fn header_text(alloc: Global, header: &Header) -> Result<Vec<u8>, LinkFault>
+    ensures { IfOk result (λ text. text.items ≡ text_of header.now) }
+{
     let mut text = Vec::new(alloc);
     write!(
         text,
         "journal 1 host {} of {} process {} world {}",
         header.host, header.hosts, header.process, header.world
     )?;
-    match &header.guest {
-        Some(image) => write_image(&mut text, image)?,
-        None => write!(text, " without guest")?,
-    }
+    write_guest(&mut text, &header.guest)?;
     Ok(text)
 }
 
 /// Writes the guest with which a host began.
-fn write_image<W: Write>(text: &mut W, image: &Image) -> Result<(), LinkFault> {
+fn write_guest<W: Write>(text: &mut W, guest: &Option<Image>) -> Result<(), LinkFault>
+    ensures { OnOk result (Appends (W.contents text.old) (W.contents text.new) (guest_text guest.now)) }
+{
+    match guest {
+        Some(image) => write_image(text, image)?,
+        None => write!(text, " without guest")?,
+    }
+    Ok(())
+}
+
+/// Writes the image with which a host began.
+fn write_image<W: Write>(text: &mut W, image: &Image) -> Result<(), LinkFault>
+    ensures { OnOk result (Appends (W.contents text.old) (W.contents text.new) (guest_text (Some image.now))) }
+{
     let form = if image.raw { "raw" } else { "elf" };
     write!(text, " guest {form} {} {} ", image.harts, image.pages)?;
     rvm_text::write_hex(text, &image.digest)?;

@@ -1,16 +1,18 @@
 //! Journals of hosts in files: a line for each event of a host, or for a run of turns, chained by SHA-256. What a writer
 //! wrote tells a reader the events of the host, in their order.
 //!
-//! Stands on `rvm_core` for the lines of commands, on `rvm_frame` for frames, on `rvm_cell` for the log of a host, and on
-//! `sha2` and `hex`. It must not know files, processes or threads.
+//! Stands on `rvm_core` for the lines of commands, on `rvm_frame` for frames, on `rvm_cell` for the log of a host, on
+//! `rvm_recorder` for the host that does again what a journal tells, and on `sha2` and `hex`. It must not know files,
+//! processes or threads.
 //!
-//! To be read in this order: `run`, `noted`, `digest`, `texts`, `header`, `file`, `writer`.
+//! To be read in this order: `run`, `noted`, `digest`, `texts`, `header`, `file`, `writer`, `replay`.
 #![tactic(auto)]
 
 mod digest;
 mod file;
 mod header;
 mod noted;
+mod replay;
 mod run;
 mod texts;
 mod writer;
@@ -18,5 +20,6 @@ mod writer;
 pub use digest::LineDigest;
 pub use header::{Header, Image};
 pub use noted::Noted;
+pub use replay::{JournalFault, replay_journal};
 pub use run::Run;
 pub use writer::JournalWriter;

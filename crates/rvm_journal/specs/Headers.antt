@@ -1,0 +1,104 @@
+-- The first line of a journal: its text, and what that text tells.
+use Rattle.std.specs.Prelude.{ℕ, ◌+◌, ◌-◌, ◌*◌, ◌^◌, ◌==◌, ◌&&◌, nat_le, nat_lt, Bool, true, false, if◌then◌else◌, List, [], ◌∷◌, ◌++◌, Option, Some, None, Result, Ok, Err, codes, option_map}
+use Rattle.std.specs.Fmt.{decimal}
+use Rattle.std.specs.Str.{bytes_eq}
+use Rattle.hex.specs.Hex.{decode_sized, encode_lower}
+use Rattle.hex.specs.declared.error.FromHexError.{FromHexError}
+use Rattle.rvm_codec.specs.Codec.{◌>>=◌}
+use Rattle.rvm_debug.specs.Words.{words}
+use Rattle.rvm_text.specs.Bytes.{is_digit}
+use Rattle.rvm_journal.specs.declared.header.Header.{Header}
+use Rattle.rvm_journal.specs.declared.header.Image.{Image}
+
+-- the form of an image, as a header names it
+abbrev pub form_text : (raw : Bool) → List ℕ
+form_text true = codes "raw"
+form_text false = codes "elf"
+
+-- the guest with which a host began, as its header names it
+abbrev pub guest_text : Option Image → List ℕ
+guest_text None = codes " without guest"
+guest_text (Some i) =
+    codes " guest " ++ form_text i.raw ++ codes " " ++ decimal i.harts ++ codes " " ++ decimal i.pages ++ codes " "
+    ++ encode_lower i.digest
+
+-- the text of a header, without its line feed
+abbrev pub text_of : Header → List ℕ
+text_of h =
+    codes "journal 1 host " ++ decimal h.host ++ codes " of " ++ decimal h.hosts ++ codes " process "
+    ++ decimal h.process ++ codes " world " ++ decimal h.world ++ guest_text h.guest
+
+-- the number that decimal digits spell after others that spell n, if it is below 2 ^ 64
+abbrev pub long_after : (n : ℕ) → List ℕ → Option ℕ
+long_after n [] = Some n
+long_after n (b ∷ bs) =
+    if is_digit b && nat_lt (n * 10 + (b - 48)) (2 ^ 64) then long_after (n * 10 + (b - 48)) bs else None
+
+-- the number of a word of decimal digits
+unfoldable pub long_in : List ℕ → Option ℕ
+long_in [] = None
+long_in (b ∷ bs) = long_after 0 (b ∷ bs)
+
+-- a number that is in a range
+abbrev pub in_range : (low high : ℕ) → ℕ → Option ℕ
+in_range low high n = if nat_le low n && nat_le n high then Some n else None
+
+-- the number of a word, if it is in a range
+abbrev pub ranged : (low high : ℕ) → (word : List ℕ) → Option ℕ
+ranged low high word = long_in word >>= in_range low high
+
+-- the number after this word, if it is in a range, and the words after it
+abbrev pub field : (name : List ℕ) → (low high : ℕ) → List (List ℕ) → Option (ℕ × List (List ℕ))
+field name low high (w ∷ v ∷ ws) = if bytes_eq w name then option_map (λ n. (n, ws)) (ranged low high v) else None
+field name low high ws = None
+
+-- whether a form is that of plain bytes
+abbrev pub form_of : List ℕ → Option Bool
+form_of word =
+    if bytes_eq word (codes "raw") then Some true else (if bytes_eq word (codes "elf") then Some false else None)
+
+-- a digest that was read
+abbrev pub digest_if : Result (List ℕ) FromHexError → Option (List ℕ)
+digest_if (Ok bytes) = Some bytes
+digest_if (Err e) = None
+
+-- an image, if all that tells it is there
+abbrev pub image_if : (raw : Option Bool) → (harts pages : Option ℕ) → (digest : Option (List ℕ)) → Option Image
+image_if (Some r) (Some h) (Some p) (Some d) = Some (record { raw = r; harts = h; pages = p; digest = d })
+image_if r h p d = None
+
+-- the image that words name: FORM HARTS PAGES DIGEST
+abbrev pub image_in : List (List ℕ) → Option Image
+image_in (f ∷ h ∷ p ∷ d ∷ []) = image_if (form_of f) (ranged 1 8 h) (ranged 1 4096 p) (digest_if (decode_sized d 32))
+image_in ws = None
+
+-- no guest, by the only word after `without`
+abbrev pub no_guest_in : List (List ℕ) → Option (Option Image)
+no_guest_in (w ∷ []) = if bytes_eq w (codes "guest") then Some None else None
+no_guest_in ws = None
+
+-- the guest that words name: `without guest`, or `guest` and its image
+abbrev pub guest_in : List (List ℕ) → Option (Option Image)
+guest_in [] = None
+guest_in (w ∷ ws) =
+    if bytes_eq w (codes "guest") then option_map Some (image_in ws)
+    else (if bytes_eq w (codes "without") then no_guest_in ws else None)
+
+-- a header, if the number of its host is one of that many hosts
+abbrev pub header_if : Header → Option Header
+header_if h = if nat_lt h.host h.hosts then Some h else None
+
+-- the header that words tell
+abbrev pub header_in : List (List ℕ) → Option Header
+header_in ws =
+    field (codes "journal") 1 1 ws >>= λ j.
+    field (codes "host") 0 7 j.1 >>= λ h.
+    field (codes "of") 2 8 h.1 >>= λ n.
+    field (codes "process") 0 18446744073709551615 n.1 >>= λ p.
+    field (codes "world") 0 18446744073709551615 p.1 >>= λ w.
+    guest_in w.1 >>= λ g.
+    header_if (record { hosts = n.0; host = h.0; process = p.0; world = w.0; guest = g })
+
+-- the header that a text tells, without the digest before it and without its line feed
+unfoldable pub header_of : List ℕ → Option Header
+header_of text = header_in (words text)

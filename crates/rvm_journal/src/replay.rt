@@ -1,0 +1,261 @@
+//! Has a recorded host do what a journal tells.
+
+ghost use Rattle.std.specs.Prelude.{◌≡◌, ◌+◌, ◌%◌, ◌<◌, ◌≤◌, ◌∷◌, [], take, IfErr, IfOk, IfSome, MatchOption, None, OnErr, OnOk, Some};
+ghost use Rattle.std.specs.Str.{bytes_eq};
+ghost use Rattle.rvm_cell.specs.Logs.{steps_from};
+ghost use Rattle.rvm_debug.specs.Words.{lines};
+ghost use Rattle.rvm_message.specs.declared.event.HostEvent.TheVariants.{Came};
+ghost use Rattle.rvm_journal.specs.Noting.{events_of};
+ghost use Rattle.rvm_journal.specs.Replaying.{HasHarts, HasMore, IsFull, IsJournalFault, IsLineDone, IsLineFault, IsReplayed, Records, noted_at};
+ghost use Rattle.rvm_journal.specs.Told.{header_told, mark, text_in};
+
+use crate::digest::{LineDigest, MARK};
+use crate::noted::Noted;
+use crate::run::Run;
+use rvm_debug::split_line;
+use rvm_frame::Frame;
+use rvm_mem::PagedMemory;
+use rvm_message::{HostEvent, Shared};
+use rvm_recorder::{MAX_SLICE, RecordError, Recorded, SliceError};
+use std::alloc::{AllocError, Global};
+use thiserror::Error;
+
+/// Why not all that a journal tells was done.
+#[derive(Clone, Copy, Debug, PartialEq, Eq, Error)]
+pub enum JournalFault {
+    /// Memory ran out.
+    #[error("out of memory")]
+    OutOfMemory,
+    /// The journal tells more events than can be counted.
+    #[error("more than 4294967295 events")]
+    TooLong,
+    /// The line with this number, from 1, does not show the digest of all lines up to it, or its text tells nothing; of a
+    /// journal without a line, 1.
+    #[error("line {0}: no line of this journal")]
+    BadLine(usize),
+}
+
+/// Has a recorded host do what the journal of host `host` of this many hosts tells, which has these bytes: all lines after
+/// the first, which is the header's, in order. Fails with `BadLine` at the first line that does not show the digest of all
+/// lines up to it, or whose text tells nothing; with `TooLong` if the recorder takes no more entries; with `OutOfMemory` if
+/// memory runs out. What the lines before tell has been recorded then.
+pub fn replay_journal<M: PagedMemory + Drop>(
+    alloc: Global,
+    hosts: u8,
+    host: u8,
+    bytes: &[u8],
+    recorded: &mut Recorded<M>,
+) -> Result<(), JournalFault>
+    ensures told { OnOk result (IsReplayed hosts host bytes.now recorded.old recorded.new) }
+    ensures fault { IfErr result (λ why. IsJournalFault why hosts host (lines bytes.now) recorded.new) }
+    ensures more { OnErr result (HasMore recorded.old recorded.new) }
+{
+    if bytes.is_empty() {
+        return Err(JournalFault::BadLine(1));
+    }
+    let (header, mut rest) = split_line(bytes);
+    let Some(first) = begin(header) else {
+        return Err(JournalFault::BadLine(1));
+    };
+    let mut digest = first;
+    let mut number = 1;
+    while !rest.is_empty() {
+        let (line, behind) = split_line(rest);
+        number += 1;
+        digest = do_line(alloc, hosts, host, number, &digest, line, recorded)?;
+        rest = behind;
+    }
+    Ok(())
+}
+
+/// The digest of the first line of a journal. None if the line does not show it.
+#[tactic(auto, using(crate::proofs::Replayed::header_shown))]
+fn begin(line: &[u8]) -> Option<LineDigest>
+    ensures { MatchOption result (header_told line.now ≡ None)
+        (λ digest. header_told line.now ≡ Some (record { digest = digest.bytes; events = [] })) }
+{
+    let digest = LineDigest::none().after(text_in(line));
+    if shows(line, &digest) {
+        Some(digest)
+    } else {
+        None
+    }
+}
+
+/// Has a recorded host do what a line tells, which has this number and comes after one with digest `before`. Returns the
+/// line's own digest.
+fn do_line<M: PagedMemory + Drop>(
+    alloc: Global,
+    hosts: u8,
+    host: u8,
+    number: usize,
+    before: &LineDigest,
+    line: &[u8],
+    recorded: &mut Recorded<M>,
+) -> Result<LineDigest, JournalFault>
+    ensures done { IfOk result (λ after. IsLineDone hosts host before.now.bytes line.now after.bytes
+        recorded.old recorded.new) }
+    ensures fault { IfErr result (λ why. IsLineFault why hosts host number before.now.bytes line.now recorded.new) }
+    ensures more { OnErr result (HasMore recorded.old recorded.new) }
+{
+    let after = before.after(text_in(line));
+    let Ok(noted) = read_line(alloc, hosts, host, &after, line) else {
+        return Err(JournalFault::OutOfMemory);
+    };
+    let Some(noted) = noted else {
+        return Err(JournalFault::BadLine(number));
+    };
+    match do_noted(alloc, noted, recorded) {
+        Ok(()) => Ok(after),
+        Err(RecordError::OutOfMemory) => Err(JournalFault::OutOfMemory),
+        Err(RecordError::RecorderFull(_)) => Err(JournalFault::TooLong),
+    }
+}
+
+/// What the text of a line tells. None if the line does not show this digest, or if its text tells nothing.
+#[tactic(auto, using(crate::proofs::Replayed::harts_of_noted))]
+fn read_line(
+    alloc: Global,
+    hosts: u8,
+    host: u8,
+    digest: &LineDigest,
+    line: &[u8],
+) -> Result<Option<Noted>, AllocError>
+    ensures noted { IfOk result (λ noted. noted ≡ noted_at hosts host digest.now.bytes line.now) }
+    ensures harts { IfOk result (λ noted. IfSome noted HasHarts) }
+{
+    if !shows(line, digest) {
+        return Ok(None);
+    }
+    Noted::read(alloc, hosts, host, text_in(line))
+}
+
+/// Whether a line shows this digest.
+#[tactic(auto, using(crate::proofs::Replayed::take_short))]
+fn shows(line: &[u8], digest: &LineDigest) -> bool
+    ensures { result ≡ bytes_eq (take 17 line.now) (mark digest.now.bytes) }
+{
+    let mark = digest.mark();
+    let shown = &line[..line.len().min(MARK)];
+    shown == mark.as_slice()
+}
+
+/// The text of a line, after what it shows of its digest; nothing if the line is shorter than that.
+#[tactic(auto, using(crate::proofs::Replayed::drop_short))]
+fn text_in(line: &[u8]) -> &[u8]
+    ensures { result.now ≡ text_in line.now }
+{
+    &line[line.len().min(MARK)..]
+}
+
+/// Has a recorded host do what a line tells. Fails if memory runs out, or if the recorder takes no more entries.
+fn do_noted<M: PagedMemory + Drop>(
+    alloc: Global,
+    noted: Noted,
+    recorded: &mut Recorded<M>,
+) -> Result<(), RecordError>
+    requires { HasHarts noted }
+    ensures done { OnOk result (Records recorded.old (events_of noted) recorded.new) }
+    ensures full { IfErr result (λ why. IsFull why recorded.new) }
+    ensures more { OnErr result (HasMore recorded.old recorded.new) }
+{
+    match noted {
+        Noted::Turns(run) => do_turns(alloc, run, recorded),
+        Noted::Command(command) => do_event(alloc, HostEvent::Do(command), recorded),
+        Noted::Came { from, frame } => do_came(alloc, from, frame, recorded),
+    }
+}
+
+/// Has a recorded host hear a frame from host `from`.
+fn do_came<M: PagedMemory + Drop>(
+    alloc: Global,
+    from: u8,
+    frame: Frame,
+    recorded: &mut Recorded<M>,
+) -> Result<(), RecordError>
+    ensures done { OnOk result (Records recorded.old (Came from frame ∷ []) recorded.new) }
+    ensures full { IfErr result (λ why. IsFull why recorded.new) }
+    ensures same { OnErr result (recorded.new ≡ recorded.old) }
+{
+    match Shared::new(alloc, frame) {
+        Ok(frame) => do_event(alloc, HostEvent::Came(from, frame), recorded),
+        Err(_) => Err(RecordError::OutOfMemory),
+    }
+}
+
+/// Has a recorded host do one event.
+#[tactic(auto, using(crate::proofs::Replayed::of_entry))]
+fn do_event<M: PagedMemory + Drop>(
+    alloc: Global,
+    event: HostEvent,
+    recorded: &mut Recorded<M>,
+) -> Result<(), RecordError>
+    ensures done { OnOk result (Records recorded.old (event ∷ []) recorded.new) }
+    ensures full { IfErr result (λ why. IsFull why recorded.new) }
+    ensures same { OnErr result (recorded.new ≡ recorded.old) }
+{
+    match recorded.record(alloc, event) {
+        Ok(_) => Ok(()),
+        Err((why, _)) => Err(why),
+    }
+}
+
+/// Has the harts of a recorded host take turns, in slices that the journal keeps as one item if each retires an
+/// instruction.
+fn do_turns<M: PagedMemory + Drop>(
+    alloc: Global,
+    run: Run,
+    recorded: &mut Recorded<M>,
+) -> Result<(), RecordError>
+    requires { (1 ≤ run.harts) × (run.harts ≤ 8) }
+    ensures done { OnOk result (Records recorded.old (steps_from run.first run.harts run.count) recorded.new) }
+    ensures full { IfErr result (λ why. IsFull why recorded.new) }
+    ensures more { OnErr result (HasMore recorded.old recorded.new) }
+{
+    let harts = run.harts;
+    let mut turn = run.first;
+    let mut left = run.count;
+    while left > 0 {
+        let made = do_slice(alloc, turn, harts, left, recorded)?;
+        turn = turn_behind(turn, made, harts);
+        left -= made;
+    }
+    Ok(())
+}
+
+/// Has harts take turns, from turn `turn` on: at least one of this many. Returns how many they took.
+#[tactic(auto, using(crate::proofs::Replayed::of_slice))]
+fn do_slice<M: PagedMemory + Drop>(
+    alloc: Global,
+    turn: u32,
+    harts: u32,
+    count: u32,
+    recorded: &mut Recorded<M>,
+) -> Result<u32, RecordError>
+    requires harts { (1 ≤ harts) × (harts ≤ 8) }
+    requires some { 1 ≤ count }
+    ensures done { IfOk result (λ made. Records recorded.old (steps_from turn harts made) recorded.new) }
+    ensures some { IfOk result (λ made. (1 ≤ made) × (made ≤ count)) }
+    ensures full { IfErr result (λ why. IsFull why recorded.new) }
+    ensures same { OnErr result (recorded.new ≡ recorded.old) }
+{
+    let before = recorded.count();
+    match recorded.record_slice(alloc, turn, harts, count.min(MAX_SLICE)) {
+        Ok(_) => Ok(recorded.count() - before),
+        Err(SliceError::RecorderFull(capacity)) => Err(RecordError::RecorderFull(capacity)),
+        Err(_) => Err(RecordError::OutOfMemory),
+    }
+}
+
+/// The number of the turn that comes `made` turns after turn `turn`; if it is too large, that of an earlier turn of the
+/// same hart.
+#[tactic(auto, using(crate::proofs::Replayed::mod_twice))]
+fn turn_behind(turn: u32, made: u32, harts: u32) -> u32
+    requires { 1 ≤ harts }
+    ensures { result % harts ≡ (turn + made) % harts }
+{
+    match turn.checked_add(made) {
+        Some(turn) => turn,
+        None => ((u64::from(turn) + u64::from(made)) % u64::from(harts)) as u32,
+    }
+}
