@@ -249,7 +249,7 @@ fn do_slice<M: PagedMemory + Drop>(
 
 /// The number of the turn that comes `made` turns after turn `turn`; if it is too large, that of an earlier turn of the
 /// same hart.
-#[tactic(auto, using(crate::proofs::Replayed::mod_twice))]
+#[tactic(auto, using(crate::proofs::Runs::twice))]
 fn turn_behind(turn: u32, made: u32, harts: u32) -> u32
     requires { 1 ≤ harts }
     ensures { result % harts ≡ (turn + made) % harts }
