@@ -31,7 +31,6 @@ use Rattle.rvm_journal.specs.Noting.{bytes_noted, came_noted, command_in, events
 use Rattle.rvm_journal.specs.Replaying.{HasHarts, HasMore, IsBadLine, IsJournalFault, IsLineDone, IsLineFault, IsReplayed, Records, events_in, noted_at}
 use Rattle.rvm_journal.specs.Told.{Told, at_header, digest_behind, header_told, mark, no_digest, text_in, told_by, told_in, told_of}
 use Rattle.rvm_journal.proofs.Adding.{behind_header, one_told}
-
 use Rattle.rvm_journal.proofs.Runs.{joined, of_turn, twice}
 
 -- at most n elements
