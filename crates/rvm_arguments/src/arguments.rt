@@ -60,6 +60,8 @@ pub struct RunArguments<'a> {
     pub stop_at_fault: bool,
     /// What is traced of the run, if anything.
     pub trace: Option<TraceArguments<'a>>,
+    /// What is reported of the run after its last turn, if anything.
+    pub report: Option<ReportArguments<'a>>,
     ghost steps_allowed: { (1 ≤ steps) × (steps ≤ 1000000000) },
 }
 
@@ -72,6 +74,31 @@ pub struct TraceArguments<'a> {
     pub from: u32,
     /// The last turn that has a line.
     pub to: u32,
+}
+
+/// A report on a run, which is written after its last turn.
+#[derive(Debug, Drop)]
+pub struct ReportArguments<'a> {
+    /// The file that gets the report.
+    pub file: &'a str,
+    /// What is reported.
+    pub report: Report,
+}
+
+/// What is reported of a run.
+#[derive(Clone, Copy, Debug, PartialEq, Eq)]
+pub enum Report {
+    /// The words of RAM in a range: a line of eight hexadecimal digits for each.
+    Signature(WordRange),
+}
+
+/// The words of a range of addresses.
+#[derive(Clone, Copy, Debug, PartialEq, Eq)]
+pub struct WordRange {
+    /// The address of the first word.
+    pub from: u32,
+    /// The length of the range in bytes; four bytes are a word.
+    pub length: u32,
 }
 
 /// The arguments of `rvmove asm`.

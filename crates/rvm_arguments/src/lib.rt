@@ -7,5 +7,6 @@ mod arguments;
 
 pub use arguments::{
     Arguments, AsmArguments, DebugArguments, DisArguments, GuestArguments, HostArguments,
-    MoveArguments, RunArguments, ScriptArguments, StatusOf, TellArguments, TraceArguments,
+    MoveArguments, Report, ReportArguments, RunArguments, ScriptArguments, StatusOf, TellArguments,
+    TraceArguments, WordRange,
 };

@@ -1,6 +1,7 @@
 -- A trace that is flushed.
 use Rattle.std.proofs.Common.{◌⊎◌, ◌<◌, arith, ℕ, List, Option, None, Some, Bool, length, inl, inr}
 use Rattle.std.specs.Io.KnownBytes.{Keeps}
+use Rattle.rvm_arguments.specs.declared.arguments.ReportArguments.{ReportArguments}
 use Rattle.rvm_arguments.specs.declared.arguments.TraceArguments.{TraceArguments}
 use Rattle.rvm_board.specs.Guest.{Guest, GuestState}
 use Rattle.rvm_command.specs.declared.run.Ended.{Ended}
@@ -22,8 +23,8 @@ flushed r end old new before after trace_before mid trace_after run kept =
     }
 
 -- a run that wrote something, to its output or its trace, writes
-pub writes : (trace : Option TraceArguments) (stop : Bool) (steps : ℕ) (input : List ℕ) (g : Guest)
-    → let r = run_with stop (traced_of trace) steps input g in (0 < length r.written) ⊎ (0 < length r.lines) → Writes r trace
-writes trace stop steps input g (inl some) = inl some
-writes None stop steps input g (inr some) = let it : 0 < 0 = some in absurd (omega (arith, it))
-writes (Some trace) stop steps input g (inr some) = inr tt
+pub writes : (trace : Option TraceArguments) (report : Option ReportArguments) (stop : Bool) (steps : ℕ) (input : List ℕ) (g : Guest)
+    → let r = run_with stop (traced_of trace) steps input g in (0 < length r.written) ⊎ (0 < length r.lines) → Writes r trace report
+writes trace report stop steps input g (inl some) = inl some
+writes None report stop steps input g (inr some) = let it : 0 < 0 = some in absurd (omega (arith, it))
+writes (Some trace) report stop steps input g (inr some) = inr (inl tt)

@@ -18,6 +18,7 @@ use Rattle.rvm_debug.specs.Script.{Answers, script_of}
 use Rattle.rvm_debug.specs.Words.{lines}
 use Rattle.rvm_refusal.specs.declared.refusal.Refusal.TheVariants.{OutOfMemory, OutsideRam, BadToken, LinkFault}
 use Rattle.rvm_arguments.specs.declared.arguments.DebugArguments.{DebugArguments}
+use Rattle.rvm_arguments.specs.declared.arguments.ReportArguments.{ReportArguments}
 use Rattle.rvm_arguments.specs.declared.arguments.RunArguments.{RunArguments}
 use Rattle.rvm_arguments.specs.declared.arguments.StatusOf.{StatusOf}
 use Rattle.rvm_arguments.specs.declared.arguments.TraceArguments.{TraceArguments}
@@ -29,6 +30,7 @@ use Rattle.rvm_command.specs.declared.run.Ended.TheVariants.{HaltedWith, StepsSp
 use Rattle.rvm_command.specs.Assembled.{IsFileOf}
 use Rattle.rvm_command.specs.Command.{FileImage, end_text, guest_of, image_of, listing, run_of}
 use Rattle.rvm_command.specs.ExtendedRuns.{session_told}
+use Rattle.rvm_command.specs.Reports.{report_text}
 use Rattle.rvm_command.specs.Watched.{Watched}
 use Rattle.rvm_command.specs.Refusals.{IsTold, refused, refused_at, refused_of_text, refused_of_script}
 use Rattle.rvm_elf.specs.Refusals.{refusal_of_file, refusal_of_image}
@@ -54,22 +56,30 @@ abbrev pub IsTraced : Option TraceArguments → Type 0
 IsTraced None = ⊥
 IsTraced (Some trace) = Unit {0}
 
--- something is to be written of a run: it has output, or a trace, which is flushed
-abbrev pub Writes : Watched → Option TraceArguments → Type 0
-Writes r trace = (0 < length r.written) ⊎ IsTraced trace
+-- a run has a report
+abbrev pub IsReported : Option ReportArguments → Type 0
+IsReported None = ⊥
+IsReported (Some report) = Unit {0}
 
--- a run has made its last turn, or was refused: before its first, or since a write failed, of its output or its trace
+-- something is to be written of a run: it has output, or a trace or a report, each of which is flushed
+abbrev pub Writes : Watched → Option TraceArguments → Option ReportArguments → Type 0
+Writes r trace report = (0 < length r.written) ⊎ (IsTraced trace ⊎ IsReported report)
+
+-- a run has made its last turn, or was refused: before its first, or since a write failed, of its output, its trace or
+-- its report
 abbrev pub IsRunEnd : RunArguments → (file input : List ℕ) → Result Ended Refused
-    → (before after trace_before trace_after : Option (List ℕ)) → Type 0
-IsRunEnd a file input (Ok ended) before after trace_before trace_after =
+    → (before after trace_before trace_after report_before report_after : Option (List ℕ)) → Type 0
+IsRunEnd a file input (Ok ended) before after trace_before trace_after report_before report_after =
     IsLoadable (image_of a.guest.raw file) a.guest.pages
     × IfOk (image_of a.guest.raw file) (λ i.
     (ended ≡ (run_of a i input).ended) × Appends before after (run_of a i input).written
-    × Appends trace_before trace_after (concat (run_of a i input).lines))
-IsRunEnd a file input (Err r) before after trace_before trace_after =
-    (IsLoadRefusal (image_of a.guest.raw file) a.guest.pages r × (after ≡ before) × (trace_after ≡ trace_before))
+    × Appends trace_before trace_after (concat (run_of a i input).lines)
+    × Appends report_before report_after (report_text a.report (run_of a i input).guest))
+IsRunEnd a file input (Err r) before after trace_before trace_after report_before report_after =
+    (IsLoadRefusal (image_of a.guest.raw file) a.guest.pages r × (after ≡ before) × (trace_after ≡ trace_before)
+    × (report_after ≡ report_before))
     ⊎ ((r ≡ refused LinkFault) × IsLoadable (image_of a.guest.raw file) a.guest.pages
-    × IfOk (image_of a.guest.raw file) (λ i. Writes (run_of a i input) a.trace))
+    × IfOk (image_of a.guest.raw file) (λ i. Writes (run_of a i input) a.trace a.report))
 
 -- the lines of an image are written, or it was refused: for its file, or since a write failed
 abbrev pub IsListEnd : FileImage → Result (Unit {0}) Refused

@@ -6,6 +6,7 @@ pub mod Faults
 pub mod FaultTexts
 pub mod Trace
 pub mod Watched
+pub mod Reports
 pub mod Turns
 pub mod Buffered
 pub mod Command

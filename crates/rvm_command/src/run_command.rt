@@ -7,11 +7,13 @@ ghost use Rattle.rvm_command.specs.declared.refused.Refused.{Refused};
 ghost use Rattle.rvm_command.specs.declared.run.Ended.{Ended};
 ghost use Rattle.rvm_command.specs.Command.{end_text, image_of};
 ghost use Rattle.rvm_command.specs.Ends.{IsLoadable, IsRunEnd, IsTraced, RunHasStatus, Writes, run_status};
+ghost use Rattle.rvm_command.specs.Reports.{report_text};
 ghost use Rattle.rvm_command.specs.Watched.{HasRun, run_with, traced_of};
 
 use crate::fault::write_fault;
 use crate::guest::load_guest;
 use crate::refused::{Refused, tell};
+use crate::report::write_report;
 use crate::run::Ended;
 use crate::watched::run_asked;
 use rvm_arguments::{RunArguments, StatusOf, TraceArguments};
@@ -30,33 +32,47 @@ const SPENT: u8 = 4;
 /// The status if the run ended at a fault: as the verdict, and in place of the guest's own status.
 const FAULTED: u8 = 5;
 
-/// Runs the guest of the file `image`, whose console gets `input`. What the guest sends goes to `output`, and the lines
-/// of the steps that `arguments.trace` asks for to `trace`.
+/// The files that a run writes beside its output.
+#[derive(Drop)]
+pub struct RunFiles<T, R> {
+    /// Gets the lines of the trace, if one is asked for.
+    pub trace: T,
+    /// Gets the report, if one is asked for.
+    pub report: R,
+}
+
+/// Runs the guest of the file `image`, whose console gets `input`. What the guest sends goes to `output`, the lines of
+/// the steps that `arguments.trace` asks for to `files.trace`, and after the last turn what `arguments.report` asks for
+/// to `files.report`.
 ///
 /// Returns the status: what `arguments.status` asks for, or 1 if the run was refused. `errors` gets one line: how the
 /// run ended, or the refusal. The fault of the file, `OutsideRam` if the image does not lie in RAM, and `OutOfMemory`
-/// leave `output` and `trace` unchanged; `LinkFault` says that a write to one of them failed, and a part of what the
-/// guest sent and of the trace may have been written. No clause says when a writer fails. The error `LinkFault` says
-/// that a write to `errors` failed.
-pub fn run_command<M: PagedMemory + Drop, O: Write, T: Write, E: Write>(
+/// leave `output` and `files` unchanged; `LinkFault` says that a write to one of them failed, and a part of what the
+/// guest sent, of the trace and of the report may have been written. No clause says when a writer fails. The error
+/// `LinkFault` says that a write to `errors` failed.
+pub fn run_command<M: PagedMemory + Drop, O: Write, T: Write, R: Write, E: Write>(
     alloc: Global,
     arguments: &RunArguments,
     image: &[u8],
     input: &[u8],
     output: &mut O,
-    trace: &mut T,
+    files: &mut RunFiles<T, R>,
     errors: &mut E,
 ) -> Result<u8, LinkFault>
     ensures status { IfOk result (λ status. RunHasStatus arguments.now.status status
         (λ end. IsRunEnd arguments.now image.now input.now end (O.contents output.old) (O.contents output.new)
-        (T.contents trace.old) (T.contents trace.new))
+        (T.contents files.old.trace) (T.contents files.new.trace)
+        (R.contents files.old.report) (R.contents files.new.report))
         (E.contents errors.old) (E.contents errors.new)) }
     ensures output { (end : Result Ended Refused) × IsRunEnd arguments.now image.now input.now end
-        (O.contents output.old) (O.contents output.new) (T.contents trace.old) (T.contents trace.new) }
+        (O.contents output.old) (O.contents output.new) (T.contents files.old.trace) (T.contents files.new.trace)
+        (R.contents files.old.report) (R.contents files.new.report) }
     ensures unloadable { IsLoadable (image_of arguments.now.guest.raw image.now) arguments.now.guest.pages
-        ⊎ ((O.contents output.new ≡ O.contents output.old) × (T.contents trace.new ≡ T.contents trace.old)) }
+        ⊎ ((O.contents output.new ≡ O.contents output.old)
+        × (T.contents files.new.trace ≡ T.contents files.old.trace)
+        × (R.contents files.new.report ≡ R.contents files.old.report)) }
 {
-    match run_image::<M, O, T>(alloc, arguments, image, input, output, trace) {
+    match run_image::<M, O, T, R>(alloc, arguments, image, input, output, files) {
         Ok(ended) => tell_run_end(ended, arguments.status, errors),
         Err(refused) => tell(refused, errors),
     }
@@ -126,21 +142,47 @@ fn guest_status(ended: Ended) -> u8
 }
 
 /// Loads the guest and runs it. Returns how the run ended, or why it was refused.
-fn run_image<M: PagedMemory + Drop, O: Write, T: Write>(
+fn run_image<M: PagedMemory + Drop, O: Write, T: Write, R: Write>(
     alloc: Global,
     arguments: &RunArguments,
     image: &[u8],
     input: &[u8],
     output: &mut O,
-    trace: &mut T,
+    files: &mut RunFiles<T, R>,
 ) -> Result<Ended, Refused>
     ensures end { IsRunEnd arguments.now image.now input.now result
-        (O.contents output.old) (O.contents output.new) (T.contents trace.old) (T.contents trace.new) }
+        (O.contents output.old) (O.contents output.new) (T.contents files.old.trace) (T.contents files.new.trace)
+        (R.contents files.old.report) (R.contents files.new.report) }
     ensures unloadable { IsLoadable (image_of arguments.now.guest.raw image.now) arguments.now.guest.pages
-        ⊎ ((O.contents output.new ≡ O.contents output.old) × (T.contents trace.new ≡ T.contents trace.old)) }
+        ⊎ ((O.contents output.new ≡ O.contents output.old)
+        × (T.contents files.new.trace ≡ T.contents files.old.trace)
+        × (R.contents files.new.report ≡ R.contents files.old.report)) }
 {
     let mut guest = load_guest::<M>(alloc, &arguments.guest, image)?;
-    Ok(run_to_end(&mut guest, arguments, input, output, trace)?)
+    Ok(run_to_report(&mut guest, arguments, input, output, files)?)
+}
+
+/// Runs a guest as the arguments ask for, and writes the report, if it has one. `LinkFault` if a write fails.
+fn run_to_report<M: Memory, O: Write, T: Write, R: Write>(
+    guest: &mut Debugged<M>,
+    arguments: &RunArguments,
+    input: &[u8],
+    output: &mut O,
+    files: &mut RunFiles<T, R>,
+) -> Result<Ended, LinkFault>
+    ensures run { IfOk result (λ end. HasRun (run_with arguments.now.stop_at_fault (traced_of arguments.now.trace)
+        arguments.now.steps input.now guest.old.guest) end guest.old guest.new
+        (O.contents output.old) (O.contents output.new)
+        (T.contents files.old.trace) (T.contents files.new.trace)) }
+    ensures report { OnOk result (Appends (R.contents files.old.report) (R.contents files.new.report)
+        (report_text arguments.now.report (run_with arguments.now.stop_at_fault (traced_of arguments.now.trace)
+        arguments.now.steps input.now guest.old.guest).guest)) }
+    ensures some { OnErr result (Writes (run_with arguments.now.stop_at_fault (traced_of arguments.now.trace)
+        arguments.now.steps input.now guest.old.guest) arguments.now.trace arguments.now.report) }
+{
+    let ended = run_to_end(guest, arguments, input, output, &mut files.trace)?;
+    write_report(guest, &arguments.report, &mut files.report)?;
+    Ok(ended)
 }
 
 /// Runs a guest as the arguments ask for, and flushes its trace, if it has one. `LinkFault` if a write fails.
@@ -156,7 +198,7 @@ fn run_to_end<M: Memory, O: Write, T: Write>(
         arguments.now.steps input.now guest.old.guest) end guest.old guest.new
         (O.contents output.old) (O.contents output.new) (T.contents trace.old) (T.contents trace.new)) }
     ensures some { OnErr result (Writes (run_with arguments.now.stop_at_fault (traced_of arguments.now.trace)
-        arguments.now.steps input.now guest.old.guest) arguments.now.trace) }
+        arguments.now.steps input.now guest.old.guest) arguments.now.trace arguments.now.report) }
 {
     let ended = run_asked(guest, arguments, input, output, trace)?;
     flush_trace(&arguments.trace, trace)?;

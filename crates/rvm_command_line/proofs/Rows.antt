@@ -1,8 +1,8 @@
 -- What `clap` gives for an option, by the rows of a command.
-use Rattle.std.proofs.Common.{◌≡◌, ◌∙◌, sym, Option, List, true, refl, ap, subst}
-use Rattle.clap.specs.Matches.{first_value, one_text}
+use Rattle.std.proofs.Common.{◌≡◌, ◌∙◌, sym, Option, List, true, refl, ap, subst, option_map}
+use Rattle.clap.specs.Matches.{first_value, matched_of, one_text, raw_values}
 use Rattle.clap.specs.Simple.{App, HasMatchesOf, is_simple, subcommand_of, subcommand_rows_of}
-use Rattle.clap.specs.Walk.{Text, first_of, one_of, rows_of}
+use Rattle.clap.specs.Walk.{Text, all_of, first_of, one_of, rows_of}
 use Rattle.clap.specs.declared.parser.matches.ArgMatches.{ArgMatches}
 use Rattle.clap.specs.declared.parser.matches.Found.{Found}
 use Rattle.clap.proofs.WalkLemmas as walk
@@ -12,6 +12,10 @@ use Rattle.rvm_command_line.specs.Program.{program}
 
 pub first_row : (f : Found) (id : Text) (text : Option Text) → text ≡ first_value f id → text ≡ first_of id (rows_of f)
 first_row f id text given = given ∙ walk.first_value-rows f id
+
+pub all_rows : (f : Found) (id : Text) (texts : Option (List Text)) → texts ≡ option_map raw_values (matched_of f id)
+    → texts ≡ all_of id (rows_of f)
+all_rows f id texts given = given ∙ walk.raw_values-rows f id
 
 pub one_row : (f : Found) (id : Text) → one_of id (rows_of f) ≡ one_text f id
 one_row f id = sym (walk.one_text-rows f id)

@@ -1,7 +1,7 @@
 -- What arguments are, by the values that `clap` found for the options of a command.
-use Rattle.std.specs.Prelude.{◌≡◌, ℕ, Bool, true, false, Option, Some, None, option_map, codes}
+use Rattle.std.specs.Prelude.{◌≡◌, ◌≤◌, ◌+◌, ◌*◌, ◌%◌, ℕ, Bool, true, false, [], ◌∷◌, Option, Some, None, option_map, codes}
 use Rattle.std.specs.Str.Parse.{IsNumeral, digits_value}
-use Rattle.clap.specs.Walk.{Row, Text, first_of, one_of}
+use Rattle.clap.specs.Walk.{Row, Text, all_of, first_of, one_of}
 use Rattle.std.specs.Prelude.{List}
 use Rattle.rvm_arguments.specs.declared.arguments.Arguments.{Arguments}
 use Rattle.rvm_arguments.specs.declared.arguments.Arguments.TheVariants.{Run, Asm, Dis, Debug, Script, Move, Audit, Host, Tell}
@@ -9,12 +9,17 @@ use Rattle.rvm_arguments.specs.declared.arguments.DebugArguments.{DebugArguments
 use Rattle.rvm_arguments.specs.declared.arguments.GuestArguments.{GuestArguments}
 use Rattle.rvm_arguments.specs.declared.arguments.HostArguments.{HostArguments}
 use Rattle.rvm_arguments.specs.declared.arguments.MoveArguments.{MoveArguments}
+use Rattle.rvm_arguments.specs.declared.arguments.Report.{Report}
+use Rattle.rvm_arguments.specs.declared.arguments.Report.TheVariants.{Signature}
+use Rattle.rvm_arguments.specs.declared.arguments.ReportArguments.{ReportArguments}
 use Rattle.rvm_arguments.specs.declared.arguments.RunArguments.{RunArguments}
 use Rattle.rvm_arguments.specs.declared.arguments.ScriptArguments.{ScriptArguments}
 use Rattle.rvm_arguments.specs.declared.arguments.StatusOf.{StatusOf}
 use Rattle.rvm_arguments.specs.declared.arguments.StatusOf.TheVariants.{Command, Verdict, Guest}
 use Rattle.rvm_arguments.specs.declared.arguments.TellArguments.{TellArguments}
 use Rattle.rvm_arguments.specs.declared.arguments.TraceArguments.{TraceArguments}
+use Rattle.rvm_arguments.specs.declared.arguments.WordRange.{WordRange}
+use Rattle.rvm_text.specs.Numbers.{number_of}
 
 -- a text was given, and it writes this number in decimal digits alone
 abbrev pub IsNumber : Option Text → ℕ → Type 0
@@ -62,7 +67,34 @@ IsTrace rows (Some trace) =
     × IsNumberOr 0 (first_of (codes "trace-from") rows) trace.from
     × IsNumberOr 999999999 (first_of (codes "trace-to") rows) trace.to
 
--- a guest, its input, its turns, what the status tells, and what is looked at while it runs
+-- words, at least one, that all lie in RAM of this many pages
+pub record IsInRam (pages : ℕ) (range : WordRange) : Type 0 where
+  pub from_whole : range.from % 4 ≡ 0
+  pub length_whole : range.length % 4 ≡ 0
+  pub some : 4 ≤ range.length
+  pub from_first : 0x80000000 ≤ range.from
+  pub to_last : range.from + range.length ≤ 0x80000000 + 4096 * pages
+
+-- a file was named, with the address and the length of a range of words, as numbers of an assembly text; all its words
+-- lie in RAM
+pub record IsSignature (pages : ℕ) (given : Option (List Text)) (file : Text) (range : WordRange) : Type 0 where
+  pub from : Text
+  pub length : Text
+  pub given_is : given ≡ Some (file ∷ from ∷ length ∷ [])
+  pub from_is : number_of from ≡ Some range.from
+  pub length_is : number_of length ≡ Some range.length
+  pub inside : IsInRam pages range
+
+-- what is reported, to a file with this name
+abbrev pub IsReportTo : (pages : ℕ) → List Row → (file : Text) → Report → Type 0
+IsReportTo pages rows file (Signature range) = IsSignature pages (all_of (codes "signature") rows) file range
+
+-- there is a report if and only if one was asked for
+abbrev pub IsReport : (pages : ℕ) → List Row → Option ReportArguments → Type 0
+IsReport pages rows None = all_of (codes "signature") rows ≡ None
+IsReport pages rows (Some r) = IsReportTo pages rows r.file.now r.report
+
+-- a guest, its input, its turns, what the status tells, what is looked at while it runs, and what is reported of it
 pub record IsRun (rows : List Row) (run : RunArguments) : Type 0 where
   pub guest : IsGuest rows run.guest
   pub input : first_of (codes "input") rows ≡ option_map (λ s. s.now) run.input
@@ -70,6 +102,7 @@ pub record IsRun (rows : List Row) (run : RunArguments) : Type 0 where
   pub status : IsStatusOf (one_of (codes "verdict") rows) (one_of (codes "exit-status") rows) run.status
   pub stop_at_fault : IsFlag (one_of (codes "stop-at-fault") rows) run.stop_at_fault
   pub trace : IsTrace rows run.trace
+  pub report : IsReport run.guest.pages rows run.report
 
 -- a guest, and whether the session is extended
 pub record IsDebug (rows : List Row) (asked : DebugArguments) : Type 0 where

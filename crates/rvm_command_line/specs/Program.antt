@@ -86,6 +86,14 @@ with_trace command =
     (with_rule (with_rule command (option (codes "trace"))) (bounded (codes "trace-from") 0 999999999))
     (bounded (codes "trace-to") 0 999999999)
 
+-- an option with a file and a range of words
+abbrev pub signature : Rule
+signature = record (new_rule (codes "signature")) { long = Some (codes "signature"); value_names = 3 }
+
+-- a command that takes the words of a report
+abbrev pub with_report : App → App
+with_report command = with_rule command signature
+
 -- a command that takes the words that say what is looked at while the guest runs
 abbrev pub with_watch : App → App
 with_watch command = with_trace (with_rule command (flag (codes "stop-at-fault")))
@@ -93,11 +101,12 @@ with_watch command = with_trace (with_rule command (flag (codes "stop-at-fault")
 -- the command that runs a guest
 abbrev pub run : App
 run =
-    with_watch
+    with_report
+    (with_watch
     (with_status
     (with_rule
     (with_rule (with_guest (new_app (codes "run"))) (number (codes "steps") (codes "1000000") 1000000000))
-    (option (codes "input"))))
+    (option (codes "input")))))
 
 -- the command that makes an ELF file of an assembly text
 abbrev pub asm : App

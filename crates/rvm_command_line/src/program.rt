@@ -7,7 +7,7 @@ ghost use Rattle.clap.specs.Walk.{rule_of};
 ghost use Rattle.clap.specs.Words.{kind_of};
 ghost use Rattle.clap.specs.declared.builder.command.Command.TheViews.{out-Command as fields_of};
 ghost use Rattle.clap.specs.declared.error.kind.ErrorKind.TheVariants as kind;
-ghost use Rattle.rvm_command_line.specs.Program.{allowed, asm, audit, bounded, debug, dis, flag, host, move, needed, needed_option, number, option, program, run, script, tell, top, with_addresses, with_board, with_default, with_guest, with_hosting, with_journal, with_move, with_name, with_policy, with_status, with_trace, with_verdict, with_watch, with_world};
+ghost use Rattle.rvm_command_line.specs.Program.{allowed, asm, audit, bounded, debug, dis, flag, host, move, needed, needed_option, number, option, program, run, script, signature, tell, top, with_addresses, with_board, with_default, with_guest, with_hosting, with_journal, with_move, with_name, with_policy, with_report, with_status, with_trace, with_verdict, with_watch, with_world};
 
 use clap::builder::ValueParser;
 use clap::{Arg, ArgAction, Command, Error};
@@ -28,6 +28,8 @@ Harts take turns of one instruction each. At the end standard error has `halted 
 With --stop-at-fault the run ends at the first trap whose handler cannot run, and standard error has it:
 `fault: hart 0 cause 7 (store access fault) at 80000040 value 10000000: sb a4, 0(a5)`.
 With --trace the file has a line for each step: its turn, its hart, the instruction and what it wrote.
+With --signature the file has, after the last turn, eight hexadecimal digits a line for each word of RAM from
+ADDR on. ADDR and LEN are decimal, or hexadecimal after 0x, and multiples of 4; all words must lie in RAM.
 
 The status:      halted 0  halted S  steps spent  fault  refused
                  0         0         0            0      1
@@ -457,7 +459,29 @@ fn run_command<'a>(alloc: Global) -> Result<Command<'a>, Error>
             "How many turns at most, 1 to 1000000000",
         ))?
         .arg(input_option(alloc))?;
-    watch_command(status_command(run, alloc)?, alloc)
+    let run = watch_command(status_command(run, alloc)?, alloc)?;
+    report_command(run, alloc)
+}
+
+/// Adds to a command the words of a report.
+fn report_command<'a>(command: Command<'a>, alloc: Global) -> Result<Command<'a>, Error>
+    ensures app { IfOk result (λ c. app_of c ≡ with_report (app_of command.entry)) }
+    ensures local { (fields_of command.entry).has_globals ≡ false
+        → IfOk result (λ c. (fields_of c).has_globals ≡ false) }
+    ensures memory { IfErr result (λ e. kind_of e ≡ kind.OutOfMemory) }
+{
+    Ok(command.arg(signature_option(alloc))?)
+}
+
+/// The option `--signature`: a file, and the words of RAM that it gets once the run has ended.
+fn signature_option<'a>(alloc: Global) -> Arg<'a>
+    ensures rule { rule_of result ≡ signature }
+    ensures local { result.global ≡ false }
+{
+    Arg::new(alloc, "signature")
+        .long("signature")
+        .value_names(&["FILE", "ADDR", "LEN"])
+        .help("The file that gets the words of RAM from ADDR on, LEN bytes, at the end")
 }
 
 /// Adds to a command the words that say what is looked at while the guest runs.

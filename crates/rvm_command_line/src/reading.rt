@@ -1,14 +1,15 @@
 //! Reads the words of a command line as arguments.
 
-ghost use Rattle.std.specs.Prelude.{◌≡◌, ◌≤◌, ◌&&◌, nat_le, if◌then◌else◌, [], ◌∷◌, Some, IfErr, IfOk, IfSome, codes, map, option_map};
+ghost use Rattle.std.specs.Prelude.{◌≡◌, ◌≤◌, ◌&&◌, nat_le, true, if◌then◌else◌, [], ◌∷◌, Some, IfErr, IfOk, IfSome, codes, map, option_map};
 ghost use Rattle.clap.specs.Faults.{fault_of};
 ghost use Rattle.clap.specs.Kinds.{HasKind};
 ghost use Rattle.clap.specs.Matches.{found_of};
 ghost use Rattle.clap.specs.Simple.{app_of, subcommand_of, subcommand_rows_of};
-ghost use Rattle.clap.specs.Walk.{first_of, one_of, rows_of};
+ghost use Rattle.clap.specs.Walk.{all_of, first_of, one_of, rows_of};
 ghost use Rattle.clap.specs.Words.{kind_of};
 ghost use Rattle.clap.specs.declared.error.kind.ErrorKind.TheVariants as kind;
-ghost use Rattle.rvm_command_line.specs.Given.{Gives, IsAsked, IsFlag, IsGuest, IsHost, IsMove, IsNumber, IsNumberOr, IsOptionalGuest, IsOptionalNumber, IsStatusOf, IsTell, IsTrace};
+ghost use Rattle.rvm_command_line.specs.Given.{Gives, IsAsked, IsFlag, IsGuest, IsHost, IsInRam, IsMove, IsNumber, IsNumberOr, IsOptionalGuest, IsOptionalNumber, IsReport, IsStatusOf, IsTell, IsTrace};
+ghost use Rattle.rvm_text.specs.Numbers.{number_of};
 ghost use Rattle.rvm_command_line.specs.Program.{faults_of, program};
 
 use crate::program::program;
@@ -16,11 +17,16 @@ use clap::error::ErrorKind;
 use clap::{ArgMatches, Command, Error};
 use rvm_arguments::{
     Arguments, AsmArguments, DebugArguments, DisArguments, GuestArguments, HostArguments,
-    MoveArguments, RunArguments, ScriptArguments, StatusOf, TellArguments, TraceArguments,
+    MoveArguments, Report, ReportArguments, RunArguments, ScriptArguments, StatusOf, TellArguments,
+    TraceArguments, WordRange,
 };
-use rvm_mem::MAX_PAGES;
+use rvm_mem::{MAX_PAGES, PAGE_SIZE};
+use rvm_text::number as spelled;
 use std::alloc::Global;
 use std::convert::AsStr;
+
+/// The address of the first byte of RAM.
+const RAM_BASE: u32 = 0x8000_0000;
 
 /// The most harts that a board has.
 const MAX_HARTS: u32 = rvm_res::MAX_HARTS as u32;
@@ -128,6 +134,7 @@ fn read_run<'a>(run: &ArgMatches<'a>) -> Result<Arguments<'a>, &'static str>
         return Err("--steps takes a decimal number from 1 to 1000000000");
     };
     let status = read_status(run)?;
+    let report = read_report(run, guest.pages)?;
     Ok(Arguments::Run(RunArguments {
         guest,
         input: text(run, "input"),
@@ -135,7 +142,68 @@ fn read_run<'a>(run: &ArgMatches<'a>) -> Result<Arguments<'a>, &'static str>
         status,
         stop_at_fault: flag(run, "stop-at-fault"),
         trace: read_trace(run)?,
+        report,
     }))
+}
+
+/// What is reported of a run with this many pages of RAM. Fails with a text if a word of a report is not what it must
+/// be, or if its file is one that the run reads or that gets its trace.
+fn read_report<'a>(
+    run: &ArgMatches<'a>,
+    pages: u32,
+) -> Result<Option<ReportArguments<'a>>, &'static str>
+    ensures { IfOk result (IsReport pages (rows_of (found_of run.now))) }
+{
+    let Some(words) = texts(run, "signature") else {
+        return Ok(None);
+    };
+    let Some((file, from, length)) = three(words) else {
+        return Err("--signature takes FILE, ADDR and LEN");
+    };
+    if is_taken(run, file) {
+        return Err("the file of --signature is one that is read, or that of --trace");
+    }
+    let Some(range) = range(from, length, pages) else {
+        return Err(
+            "--signature takes ADDR and LEN in multiples of 4, LEN from 4 on, all of it in RAM",
+        );
+    };
+    let report = Report::Signature(range);
+    Ok(Some(ReportArguments { file, report }))
+}
+
+/// Whether a file is named that the run reads, or that gets its trace.
+fn is_taken(run: &ArgMatches, file: &str) -> bool {
+    is_named(text(run, "image"), file)
+        || is_named(text(run, "input"), file)
+        || is_named(text(run, "trace"), file)
+}
+
+/// The three words of an option, if there are three.
+fn three<'a>(words: &[&'a str]) -> Option<(&'a str, &'a str, &'a str)>
+    ensures { IfSome result (λ t. map (λ w. w.now) words.now ≡ t.0.now ∷ t.1.now ∷ t.2.now ∷ []) }
+{
+    match words {
+        [first, second, third] => Some((*first, *second, *third)),
+        _ => None,
+    }
+}
+
+/// The words of a range of which two texts have the address and the length, if all lie in RAM of this many pages.
+fn range(from: &str, length: &str, pages: u32) -> Option<WordRange>
+    ensures from { IfSome result (λ r. number_of from.now ≡ Some r.from) }
+    ensures length { IfSome result (λ r. number_of length.now ≡ Some r.length) }
+    ensures inside { IfSome result (IsInRam pages) }
+{
+    let range = WordRange {
+        from: spelled(from.as_bytes())?,
+        length: spelled(length.as_bytes())?,
+    };
+    if is_in_ram(range, pages) {
+        Some(range)
+    } else {
+        None
+    }
 }
 
 /// What is traced of a run. Fails with a text if an option of a trace has no number within its limits, if one is given
@@ -156,6 +224,19 @@ fn read_trace<'a>(run: &ArgMatches<'a>) -> Result<Option<TraceArguments<'a>>, &'
         return Err("--trace-to takes a decimal number from 0 to 999999999");
     };
     Ok(Some(TraceArguments { file, from, to }))
+}
+
+/// Whether a range has at least one word, and all its words lie in RAM of this many pages.
+fn is_in_ram(range: WordRange, pages: u32) -> bool
+    ensures { result ≡ true → IsInRam pages range }
+{
+    let (from, length) = (range.from, range.length);
+    let end = u64::from(RAM_BASE) + u64::from(PAGE_SIZE) * u64::from(pages);
+    from % 4 == 0
+        && length % 4 == 0
+        && length >= 4
+        && from >= RAM_BASE
+        && u64::from(from) + u64::from(length) <= end
 }
 
 /// Whether an argument names this file.
@@ -389,6 +470,14 @@ fn text<'a>(command: &ArgMatches<'a>, option: &str) -> Option<&'a str>
     ensures { option_map (λ s. s.now) result ≡ first_of option.now (rows_of (found_of command.now)) }
 {
     command.get_str(option)
+}
+
+/// The texts of an option that takes several, if it is given.
+#[tactic(auto, using(crate::proofs::Rows::all_rows))]
+fn texts<'m, 'a>(command: &'m ArgMatches<'a>, option: &str) -> Option<&'m [&'a str]>
+    ensures { option_map (λ s. map (λ w. w.now) s.now) result ≡ all_of option.now (rows_of (found_of command.now)) }
+{
+    command.get_raw(option)
 }
 
 /// Whether a flag is given.

@@ -12,7 +12,6 @@ use Rattle.rvm_arguments.specs.declared.arguments.MoveArguments.{MoveArguments}
 use Rattle.rvm_arguments.specs.declared.arguments.RunArguments.{RunArguments}
 use Rattle.rvm_arguments.specs.declared.arguments.ScriptArguments.{ScriptArguments}
 use Rattle.rvm_arguments.specs.declared.arguments.StatusOf.{StatusOf}
-use Rattle.rvm_arguments.specs.declared.arguments.TraceArguments.{TraceArguments}
 use Rattle.rvm_command.specs.declared.refused.Refused.{Refused}
 use Rattle.rvm_command.specs.declared.run.Ended.{Ended}
 use Rattle.rvm_command.specs.Command.{end_text, image_of, refused_text}
@@ -20,7 +19,7 @@ use Rattle.rvm_command.specs.Ends.{HasStatus, IsAsmEnd, IsDebugEnd, IsListEnd, I
 use Rattle.rvm_host_command.specs.Hosted.{IsHostedTo}
 use Rattle.rvm_move.specs.Ended.{IsMoved, IsNotMoved, IsUntold}
 use Rattle.rvm_move.specs.Orders.{IsAudited, IsNotAudited}
-use Rattle.rvm_program.specs.Ended.{AsmEnded, AuditEnded, DebugEnded, DisEnded, HasHosted, HasRunTo, HostEnded, IsTraceFile, MoveEnded, RunEnded, ScriptEnded, TellEnded, ToTell, Written}
+use Rattle.rvm_program.specs.Ended.{AsmEnded, AuditEnded, DebugEnded, DisEnded, HasHosted, HasRunTo, HostEnded, IsNamedFile, MoveEnded, RunEnded, ScriptEnded, TellEnded, ToTell, Written, report_name, trace_name}
 use Rattle.rvm_command.proofs.Inputs.{ends_so}
 use Rattle.rvm_program.specs.Files.{IsApart, IsCreated, IsFile, IsFirst, IsFirstInput, IsImage, IsInput, IsOpened, Named}
 use Rattle.rvm_command.specs.ScriptEnds.{IsScriptEnd}
@@ -73,8 +72,11 @@ ends_with created a image begun given input output end same (inl all) is =
     subst (λ i. HasRunTo created a image i end output) (same ∙ all) is
 ends_with created a image begun given input output end same (inr part) is = record {
   trace = is.trace;
+  report = is.report;
   trace_is = is.trace_is;
-  ended = ends_so a image begun input end output.before output.after is.trace.before is.trace.after (same ∙ part) is.ended;
+  report_is = is.report_is;
+  ended = ends_so a image begun input end output.before output.after is.trace.before is.trace.after
+      is.report.before is.report.after (same ∙ part) is.ended;
 }
 
 -- a run that ended so has its status of each end that it has, too
@@ -84,43 +86,32 @@ ended_so : (asked : StatusOf) (status : ℕ) (errors : Written) (P Q : Result En
 ended_so asked status errors P Q f (inl (e, is, end, told)) = inl (e, is, f (Ok e) end, told)
 ended_so asked status errors P Q f (inr (r, is, end, told)) = inr (r, is, f (Err r) end, told)
 
--- a run without a trace may have any writer
-pub no_trace : (created : Named) (trace : Option TraceArguments) (held : Option (List ℕ)) → trace ≡ None
-    → IsTraceFile created trace held
-no_trace created trace held none = subst (λ t. IsTraceFile created t held) (sym none) tt
+module _ (created : Named) (a : RunArguments) (image input : List ℕ) (output trace report : Written)
+    (trace_is : IsNamedFile created (trace_name a.trace) trace.before)
+    (report_is : IsNamedFile created (report_name a.report) report.before) where
+  -- how a run ended that wrote to these files
+  abbrev pub EndsWith : Result Ended Refused → Type 0
+  EndsWith end =
+      IsRunEnd a image input end output.before output.after trace.before trace.after report.before report.after
 
--- a buffer that holds nothing in front of the file of a trace
-pub file_of_trace : (created : Named) (trace : Option TraceArguments) (t : TraceArguments) (file held : Option (List ℕ))
-    → trace ≡ Some t → IsCreated (created t.file.now) file → held ≡ file → IsTraceFile created trace held
-file_of_trace created trace t file held some made same =
-    subst (λ o. IsTraceFile created o held) (sym some) (subst (IsCreated (created t.file.now)) (sym same) made)
-
-module _ (created : Named) (a : RunArguments) (image input : List ℕ) (output trace : Written)
-    (trace_is : IsTraceFile created a.trace trace.before) where
-  -- a run that wrote to this file of its trace, if it has one
-  ends_in : (end : Result Ended Refused)
-      → IsRunEnd a image input end output.before output.after trace.before trace.after
-      → HasRunTo created a image input end output
-  ends_in end is = record { trace = trace; trace_is = trace_is; ended = is }
+  -- a run that wrote to the files of its trace and its report, if it has them
+  ends_in : (end : Result Ended Refused) → EndsWith end → HasRunTo created a image input end output
+  ends_in end is =
+      record { trace = trace; report = report; trace_is = trace_is; report_is = report_is; ended = is }
 
   -- the same of its end
-  pub end_traced : (end : Result Ended Refused)
-      × IsRunEnd a image input end output.before output.after trace.before trace.after
+  pub end_written : (end : Result Ended Refused) × EndsWith end
       → (end : Result Ended Refused) × HasRunTo created a image input end output
-  end_traced end = (end.0, ends_in end.0 end.1)
+  end_written end = (end.0, ends_in end.0 end.1)
 
   -- the same of its status
-  pub status_traced : {F : Type 0} (errors : Written) (r : Result ℕ F)
-      → IfOk r (λ status. RunHasStatus a.status status
-      (λ end. IsRunEnd a image input end output.before output.after trace.before trace.after)
-      errors.before errors.after)
+  pub status_written : {F : Type 0} (errors : Written) (r : Result ℕ F)
+      → IfOk r (λ status. RunHasStatus a.status status EndsWith errors.before errors.after)
       → IfOk r (λ status. RunHasStatus a.status status (λ end. HasRunTo created a image input end output)
       errors.before errors.after)
-  status_traced errors (Err e) told = tt
-  status_traced errors (Ok status) told =
-      ended_so a.status status errors
-      (λ end. IsRunEnd a image input end output.before output.after trace.before trace.after)
-      (λ end. HasRunTo created a image input end output) ends_in told
+  status_written errors (Err e) told = tt
+  status_written errors (Ok status) told =
+      ended_so a.status status errors EndsWith (λ end. HasRunTo created a image input end output) ends_in told
 
 -- what a call returned, if it began, has whatever follows from what it has
 pub begun_so : {T E : Type 0} (r : Result T E) (P Q : T → Type 0) → ((t : T) → P t → Q t) → IfOk r P → IfOk r Q

@@ -1,5 +1,6 @@
 -- How a command ended, given the files that it names.
-use Rattle.std.specs.Prelude.{◌≡◌, ◌⊎◌, ⊤, ℕ, zero, suc, true, List, [], Option, None, Some, Result}
+use Rattle.std.specs.Borrow.{Bor}
+use Rattle.std.specs.Prelude.{◌≡◌, ◌⊎◌, ⊤, ℕ, zero, suc, true, List, [], Option, None, Some, Result, option_map}
 use Rattle.rvm_arguments.specs.declared.arguments.Arguments.{Arguments}
 use Rattle.rvm_arguments.specs.declared.arguments.Arguments.TheVariants.{Run, Asm, Dis, Debug, Script, Move, Audit, Host, Tell}
 use Rattle.rvm_arguments.specs.declared.arguments.AsmArguments.{AsmArguments}
@@ -7,6 +8,7 @@ use Rattle.rvm_arguments.specs.declared.arguments.DebugArguments.{DebugArguments
 use Rattle.rvm_arguments.specs.declared.arguments.DisArguments.{DisArguments}
 use Rattle.rvm_arguments.specs.declared.arguments.HostArguments.{HostArguments}
 use Rattle.rvm_arguments.specs.declared.arguments.MoveArguments.{MoveArguments}
+use Rattle.rvm_arguments.specs.declared.arguments.ReportArguments.{ReportArguments}
 use Rattle.rvm_arguments.specs.declared.arguments.RunArguments.{RunArguments}
 use Rattle.rvm_arguments.specs.declared.arguments.ScriptArguments.{ScriptArguments}
 use Rattle.rvm_arguments.specs.declared.arguments.TraceArguments.{TraceArguments}
@@ -31,17 +33,27 @@ pub record Written : Type 0 where
 abbrev pub written : (before after : Option (List ℕ)) → Written
 written before after = record { before = before; after = after }
 
--- a writer is the file of this trace, new or emptied; without a trace it may be any
-abbrev pub IsTraceFile : (created : Named) → Option TraceArguments → (held : Option (List ℕ)) → Type 0
-IsTraceFile created None held = ⊤
-IsTraceFile created (Some trace) held = IsCreated (created trace.file.now) held
+-- a writer is the file with this name, new or emptied; without a name it may be any
+abbrev pub IsNamedFile : (created : Named) → (name : Option (Bor (List ℕ))) → (held : Option (List ℕ)) → Type 0
+IsNamedFile created None held = ⊤
+IsNamedFile created (Some name) held = IsCreated (created name.now) held
 
--- a run of this image with this input ended so, and wrote to the file of its trace, if it has one
+-- the name of the file of a trace, if there is one
+abbrev pub trace_name : Option TraceArguments → Option (Bor (List ℕ))
+trace_name trace = option_map (λ t. t.file) trace
+
+-- the name of the file of a report, if there is one
+abbrev pub report_name : Option ReportArguments → Option (Bor (List ℕ))
+report_name report = option_map (λ r. r.file) report
+
+-- a run of this image with this input ended so, and wrote to the files of its trace and its report, if it has them
 pub record HasRunTo (created : Named) (a : RunArguments) (image input : List ℕ) (end : Result Ended Refused)
     (output : Written) : Type 0 where
   pub trace : Written
-  pub trace_is : IsTraceFile created a.trace trace.before
-  pub ended : IsRunEnd a image input end output.before output.after trace.before trace.after
+  pub report : Written
+  pub trace_is : IsNamedFile created (trace_name a.trace) trace.before
+  pub report_is : IsNamedFile created (report_name a.report) report.before
+  pub ended : IsRunEnd a image input end output.before output.after trace.before trace.after report.before report.after
 
 -- `run` was given the image that it names, and the input, if it names one, and has the status that was asked for
 pub record RunEnded (files created : Named) (a : RunArguments) (status : ℕ) (output errors : Written) : Type 0 where

@@ -3,28 +3,30 @@
 //! file has more bytes than it may have, or if memory runs out; all other refusals are reported by the command over
 //! values.
 
-ghost use Rattle.std.specs.Prelude.{◌≡◌, ◌⊎◌, Result, IfErr, IfOk, OnErr};
+ghost use Rattle.std.specs.Prelude.{◌≡◌, ◌⊎◌, None, Result, IfErr, IfOk, OnErr};
+ghost use Rattle.either.specs.Either.{either};
 ghost use Rattle.rvm_arguments.specs.declared.arguments.Arguments.TheVariants as asks;
 ghost use Rattle.rvm_refusal.specs.declared.refusal.Refusal.TheVariants as refusal;
 ghost use Rattle.std.specs.Io.Buffered.{writer_contents};
 ghost use Rattle.rvm_command.specs.declared.refused.Refused.{Refused};
 ghost use Rattle.rvm_command.specs.declared.run.Ended.{Ended};
 ghost use Rattle.rvm_command.specs.Ends.{RunHasStatus};
-ghost use Rattle.rvm_program.specs.Ended.{AsmEnded, AuditEnded, DebugEnded, DisEnded, HasRunTo, HostEnded, MoveEnded, RunEnded, ScriptEnded, TellEnded, ToTell, written};
+ghost use Rattle.rvm_program.specs.Ended.{AsmEnded, AuditEnded, DebugEnded, DisEnded, HasRunTo, HostEnded, IsNamedFile, MoveEnded, RunEnded, ScriptEnded, TellEnded, ToTell, report_name, trace_name, written};
 ghost use Rattle.rvm_program.specs.Files.{IsFile, IsFileRefusal, IsFirst, IsFirstInput, IsImage, IsLong, IsLongInput, IsUnread, max_size};
 
 use crate::files::{MAX_FILE_SIZE, NamedFiles, keep_apart, read_beginning, read_whole, refusal_of};
 use crate::images::{begin_image, check_image, read_image};
 use crate::system::System;
+use either::Either;
 use rvm_arguments::{
     AsmArguments, DebugArguments, DisArguments, GuestArguments, HostArguments, MoveArguments,
-    RunArguments, ScriptArguments, TellArguments,
+    ReportArguments, RunArguments, ScriptArguments, TellArguments, TraceArguments,
 };
 use rvm_cell::{InputQueue, read_input as read_console_input};
 use rvm_command::asm_command::asm_command;
 use rvm_command::debug_command::debug_command;
 use rvm_command::dis_command::dis_command;
-use rvm_command::run_command::run_command;
+use rvm_command::run_command::{RunFiles, run_command};
 use rvm_command::script_command::script_command;
 use rvm_host_command::host_command::{HostBytes, host_command};
 use rvm_host_command::tell_command::{LOST, connect_to, tell_command};
@@ -70,8 +72,8 @@ pub(crate) fn run<M: PagedMemory + Drop, F: NamedFiles, O: Write, E: Write>(
     run_read::<M, F, O, E>(alloc, files, arguments, &image, &input, output, errors)
 }
 
-/// Runs a guest of which all was read. Creates or empties the file of its trace, if it has one. Fails with a refusal if
-/// that file cannot be created, or if memory runs out.
+/// Runs a guest of which all was read. Creates or empties the files of its trace and of its report, if it has them. Fails
+/// with a refusal if one of these cannot be created, or if memory runs out.
 fn run_read<M: PagedMemory + Drop, F: NamedFiles, O: Write, E: Write>(
     alloc: Global,
     files: &F,
@@ -90,20 +92,65 @@ fn run_read<M: PagedMemory + Drop, F: NamedFiles, O: Write, E: Write>(
     ensures refused { IfErr result (λ r. IsFileRefusal r × (O.contents output.new ≡ O.contents output.old)
         × (E.contents errors.new ≡ E.contents errors.old)) }
 {
-    match &arguments.trace {
-        None => Ok(run_command::<M, O, Sink, E>(
-            alloc,
-            arguments,
-            image,
-            input,
-            output,
-            &mut io::sink(),
-            errors,
-        )),
-        Some(trace) => {
-            let mut file = buffered(alloc, files.create(trace.file)?)?;
-            Ok(run_command::<M, O, _, E>(alloc, arguments, image, input, output, &mut file, errors))
-        }
+    let mut written = create_files(alloc, files, arguments)?;
+    Ok(run_command::<M, O, _, _, E>(alloc, arguments, image, input, output, &mut written, errors))
+}
+
+/// Creates or empties the files of the trace and of the report of a run, if it has them. Fails with a refusal if one of
+/// these cannot be created, or if memory runs out.
+fn create_files<F: NamedFiles>(
+    alloc: Global,
+    files: &F,
+    arguments: &RunArguments,
+) -> Result<
+    RunFiles<Either<BufWriter<F::Created>, Sink>, Either<BufWriter<F::Created>, Sink>>,
+    Refusal,
+>
+    ensures trace { IfOk result (λ f. IsNamedFile (F.created_of files.now) (trace_name arguments.now.trace)
+        (either (writer_contents F.Created.contents) (λ s. None) f.trace)) }
+    ensures report { IfOk result (λ f. IsNamedFile (F.created_of files.now) (report_name arguments.now.report)
+        (either (writer_contents F.Created.contents) (λ s. None) f.report)) }
+    ensures refused { IfErr result IsFileRefusal }
+{
+    let trace = create_named(alloc, files, trace_name(&arguments.trace))?;
+    let report = create_named(alloc, files, report_name(&arguments.report))?;
+    Ok(RunFiles { trace, report })
+}
+
+/// The name of the file of a trace, if there is one.
+fn trace_name<'a>(trace: &Option<TraceArguments<'a>>) -> Option<&'a str>
+    ensures { result ≡ trace_name trace.now }
+{
+    match trace {
+        Some(trace) => Some(trace.file),
+        None => None,
+    }
+}
+
+/// The name of the file of a report, if there is one.
+fn report_name<'a>(report: &Option<ReportArguments<'a>>) -> Option<&'a str>
+    ensures { result ≡ report_name report.now }
+{
+    match report {
+        Some(report) => Some(report.file),
+        None => None,
+    }
+}
+
+/// A buffer in front of the file with this name, which is created or emptied. Without a name, what is written goes
+/// nowhere.
+fn create_named<F: NamedFiles>(
+    alloc: Global,
+    files: &F,
+    name: Option<&str>,
+) -> Result<Either<BufWriter<F::Created>, Sink>, Refusal>
+    ensures named { IfOk result (λ w. IsNamedFile (F.created_of files.now) name
+        (either (writer_contents F.Created.contents) (λ s. None) w)) }
+    ensures refused { IfErr result IsFileRefusal }
+{
+    match name {
+        Some(name) => Ok(Either::Left(buffered(alloc, files.create(name)?)?)),
+        None => Ok(Either::Right(io::sink())),
     }
 }
 

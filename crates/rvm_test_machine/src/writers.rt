@@ -3,12 +3,12 @@
 use rvm_arguments::{DebugArguments, GuestArguments, RunArguments, StatusOf};
 use rvm_command::asm_command::asm_command;
 use rvm_command::debug_command::debug_command;
-use rvm_command::run_command::run_command;
+use rvm_command::run_command::{RunFiles, run_command};
 use rvm_paged::PagedRam;
 use rvm_refusal::LinkFault;
 use std::alloc::{AllocError, Global};
 use std::io;
-use std::io::{BufWriter, Write};
+use std::io::{BufWriter, Sink, Write};
 use std::test::Fail;
 
 /// Sends A without end: lui t0, 0x10000; addi t1, a0, 65; sw t1, 0(t0); jal zero, -4.
@@ -104,6 +104,14 @@ fn guest() -> GuestArguments<'static> {
     }
 }
 
+/// No files beside the output: what would go to one goes nowhere.
+fn no_files() -> RunFiles<Sink, Sink> {
+    RunFiles {
+        trace: io::sink(),
+        report: io::sink(),
+    }
+}
+
 /// The bytes of words, as an image has them.
 fn bytes_of(alloc: Global, words: &[u32]) -> Result<Vec<u8>, AllocError> {
     let mut bytes = Vec::new(alloc);
@@ -123,6 +131,7 @@ fn a_run_writes_in_large_pieces_and_before_it_ends(rt: HostRuntime) -> Result<()
         status: StatusOf::Command,
         stop_at_fault: false,
         trace: None,
+        report: None,
     };
     let mut falling = Vec::new(alloc);
     for number in (1..=10_000u32).rev() {
@@ -139,13 +148,13 @@ fn a_run_writes_in_large_pieces_and_before_it_ends(rt: HostRuntime) -> Result<()
             bytes: Vec::new(alloc),
         };
         let mut errors = Vec::new(alloc);
-        let status = run_command::<PagedRam, _, _, _>(
+        let status = run_command::<PagedRam, _, _, _, _>(
             alloc,
             &arguments,
             &image,
             &[],
             &mut output,
-            &mut io::sink(),
+            &mut no_files(),
             &mut errors,
         );
         assert_eq!(rt; errors.as_slice(), "halted 0\n".as_bytes());
@@ -166,18 +175,19 @@ fn a_failed_write_of_a_run_is_told(rt: HostRuntime) -> Result<(), Fail> {
         status: StatusOf::Command,
         stop_at_fault: false,
         trace: None,
+        report: None,
     };
     let letters = bytes_of(alloc, &LETTERS)?;
     // The output fails in the middle of a piece, or at once.
     for room in [40, 0] {
         let (mut output, mut errors) = (Narrow { room }, Vec::new(alloc));
-        let status = run_command::<PagedRam, _, _, _>(
+        let status = run_command::<PagedRam, _, _, _, _>(
             alloc,
             &arguments,
             &letters,
             &[],
             &mut output,
-            &mut io::sink(),
+            &mut no_files(),
             &mut errors,
         );
         assert_eq!(rt; errors.as_slice(), REFUSAL.as_bytes());
@@ -187,13 +197,13 @@ fn a_failed_write_of_a_run_is_told(rt: HostRuntime) -> Result<(), Fail> {
     // The report of the end can fail too.
     let letter = bytes_of(alloc, &LETTER)?;
     let (mut output, mut errors) = (Vec::new(alloc), Narrow { room: 3 });
-    let status = run_command::<PagedRam, _, _, _>(
+    let status = run_command::<PagedRam, _, _, _, _>(
         alloc,
         &arguments,
         &letter,
         &[],
         &mut output,
-        &mut io::sink(),
+        &mut no_files(),
         &mut errors,
     );
     assert_eq!(rt; output.as_slice(), "A".as_bytes());

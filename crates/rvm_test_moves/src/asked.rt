@@ -69,6 +69,7 @@ pub fn to_run() -> RunArguments<'static> {
         status: StatusOf::Command,
         stop_at_fault: false,
         trace: None,
+        report: None,
     }
 }
 

@@ -4,7 +4,7 @@ ghost use Rattle.std.specs.Prelude.{◌≤◌};
 
 use crate::asked::{STEPS, to_move, to_run};
 use rvm_cell::Gate;
-use rvm_command::run_command::run_command;
+use rvm_command::run_command::{RunFiles, run_command};
 use rvm_link::Link;
 use rvm_move::Links;
 use rvm_move::move_command::move_command;
@@ -97,13 +97,16 @@ impl MoveResult {
     pub fn is_as_run(&self, alloc: Global, image: &[u8]) -> bool {
         let mut output = Vec::new(alloc);
         let mut errors = Vec::new(alloc);
-        let run = run_command::<PagedRam, _, _, _>(
+        let run = run_command::<PagedRam, _, _, _, _>(
             alloc,
             &to_run(),
             image,
             &[],
             &mut output,
-            &mut io::sink(),
+            &mut RunFiles {
+                trace: io::sink(),
+                report: io::sink(),
+            },
             &mut errors,
         );
         run == Ok(0) && output.as_slice() == self.output.as_slice()

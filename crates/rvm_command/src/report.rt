@@ -1,0 +1,98 @@
+//! What is reported of a run once it has ended.
+//!
+//! A signature has a line for each word of a range of RAM, as the run left it: its eight hexadecimal digits, in lower case.
+
+ghost use Rattle.std.specs.Prelude.{◌≡◌, OnErr, OnOk};
+ghost use Rattle.std.specs.Io.KnownBytes.{Appends};
+ghost use Rattle.rvm_command.specs.Ends.{IsReported};
+ghost use Rattle.rvm_command.specs.Reports.{report_text, reported, signature, word_row};
+
+use crate::trace::word_at;
+use rvm_arguments::{Report, ReportArguments, WordRange};
+use rvm_board::Debugged;
+use rvm_dis::Digits;
+use rvm_mem::Memory;
+use rvm_refusal::LinkFault;
+use std::io::Write;
+
+/// Writes the report on a run that left this guest, if one is asked for, and flushes it. `LinkFault` if that fails, which
+/// is possible only if one is asked for.
+pub(crate) fn write_report<M: Memory, W: Write>(
+    guest: &mut Debugged<M>,
+    asked: &Option<ReportArguments>,
+    writer: &mut W,
+) -> Result<(), LinkFault>
+    ensures text { OnOk result (Appends (W.contents writer.old) (W.contents writer.new)
+        (report_text asked.now guest.old.guest)) }
+    ensures guest { guest.new ≡ guest.old }
+    ensures some { OnErr result (IsReported asked.now) }
+{
+    match asked {
+        Some(asked) => write_flushed(guest, asked.report, writer),
+        None => Ok(()),
+    }
+}
+
+/// Writes a report, and flushes it. `LinkFault` if that fails.
+#[tactic(auto, using(crate::proofs::Refusals::appends_kept))]
+fn write_flushed<M: Memory, W: Write>(
+    guest: &mut Debugged<M>,
+    report: Report,
+    writer: &mut W,
+) -> Result<(), LinkFault>
+    ensures text { OnOk result (Appends (W.contents writer.old) (W.contents writer.new)
+        (reported report guest.old.guest)) }
+    ensures guest { guest.new ≡ guest.old }
+{
+    write_reported(guest, report, writer)?;
+    Ok(writer.flush()?)
+}
+
+/// Writes a report. `LinkFault` if a write fails.
+fn write_reported<M: Memory, W: Write>(
+    guest: &mut Debugged<M>,
+    report: Report,
+    writer: &mut W,
+) -> Result<(), LinkFault>
+    ensures text { OnOk result (Appends (W.contents writer.old) (W.contents writer.new)
+        (reported report guest.old.guest)) }
+    ensures guest { guest.new ≡ guest.old }
+{
+    match report {
+        Report::Signature(range) => write_signature(guest, range, writer),
+    }
+}
+
+/// Writes the lines of the words of a range; an address with no word of RAM has none. `LinkFault` if a write fails.
+fn write_signature<M: Memory, W: Write>(
+    guest: &mut Debugged<M>,
+    range: WordRange,
+    writer: &mut W,
+) -> Result<(), LinkFault>
+    ensures text { OnOk result (Appends (W.contents writer.old) (W.contents writer.new)
+        (signature range guest.old.guest)) }
+    ensures guest { guest.new ≡ guest.old }
+{
+    let mut address = range.from;
+    let mut left = range.length / 4;
+    while left > 0 {
+        let word = word_at(guest, address);
+        write_row(word, writer)?;
+        address = address.wrapping_add(4);
+        left -= 1;
+    }
+    Ok(())
+}
+
+/// Writes the line of a word, if there is one.
+fn write_row<W: Write>(word: Option<u32>, writer: &mut W) -> Result<(), LinkFault>
+    ensures { OnOk result (Appends (W.contents writer.old) (W.contents writer.new) (word_row word)) }
+{
+    match word {
+        Some(word) => {
+            writeln!(writer, "{}", Digits(word))?;
+            Ok(())
+        }
+        None => Ok(()),
+    }
+}
