@@ -16,6 +16,7 @@ pub enum Arguments<'a> {
     Audit(MoveArguments<'a>),
     Host(HostArguments<'a>),
     Tell(TellArguments<'a>),
+    Replay(ReplayArguments<'a>),
 }
 
 /// A guest: the file of its image, and its board. Each number is within its limits.
@@ -203,4 +204,13 @@ pub struct TellArguments<'a> {
     pub control: &'a str,
     /// The line that the host is told. Without one, it is told all lines of standard input.
     pub line: Option<&'a str>,
+}
+
+/// The arguments of `rvmove replay`.
+#[derive(Debug, Drop)]
+pub struct ReplayArguments<'a> {
+    /// The file of the journal of a host.
+    pub journal: &'a str,
+    /// The file of the image of the guest with which the host began, if it began with one.
+    pub image: Option<&'a str>,
 }

@@ -7,6 +7,6 @@ mod arguments;
 
 pub use arguments::{
     Arguments, AsmArguments, DebugArguments, DisArguments, GuestArguments, HostArguments,
-    MoveArguments, Report, ReportArguments, RunArguments, ScriptArguments, StatusOf, TellArguments,
+    MoveArguments, ReplayArguments, Report, ReportArguments, RunArguments, ScriptArguments, StatusOf, TellArguments,
     TraceArguments, WordRange,
 };

@@ -14,11 +14,6 @@ abbrev pub IsEmpty : Option (List HostEvent) → Type 0
 IsEmpty None = ⊤
 IsEmpty (Some events) = events ≡ []
 
--- nothing was kept yet, or it is not known what was
-abbrev pub IsEmpty : Option (List HostEvent) → Type 0
-IsEmpty None = ⊤
-IsEmpty (Some events) = events ≡ []
-
 -- these events were kept after those before them; once not all were kept, it stays so
 abbrev pub KeepsOn : (old new : Option (List HostEvent)) → List HostEvent → Type 0
 KeepsOn None new events = new ≡ None

@@ -4,11 +4,12 @@ use Rattle.std.specs.Str.Parse.{IsNumeral, digits_value}
 use Rattle.clap.specs.Walk.{Row, Text, all_of, first_of, one_of}
 use Rattle.std.specs.Prelude.{List}
 use Rattle.rvm_arguments.specs.declared.arguments.Arguments.{Arguments}
-use Rattle.rvm_arguments.specs.declared.arguments.Arguments.TheVariants.{Run, Asm, Dis, Debug, Script, Move, Audit, Host, Tell}
+use Rattle.rvm_arguments.specs.declared.arguments.Arguments.TheVariants.{Run, Asm, Dis, Debug, Script, Move, Audit, Host, Tell, Replay}
 use Rattle.rvm_arguments.specs.declared.arguments.DebugArguments.{DebugArguments}
 use Rattle.rvm_arguments.specs.declared.arguments.GuestArguments.{GuestArguments}
 use Rattle.rvm_arguments.specs.declared.arguments.HostArguments.{HostArguments}
 use Rattle.rvm_arguments.specs.declared.arguments.MoveArguments.{MoveArguments}
+use Rattle.rvm_arguments.specs.declared.arguments.ReplayArguments.{ReplayArguments}
 use Rattle.rvm_arguments.specs.declared.arguments.Report.{Report}
 use Rattle.rvm_arguments.specs.declared.arguments.Report.TheVariants.{Signature}
 use Rattle.rvm_arguments.specs.declared.arguments.ReportArguments.{ReportArguments}
@@ -151,6 +152,11 @@ pub record IsTell (rows : List Row) (tell : TellArguments) : Type 0 where
   pub control : first_of (codes "socket") rows ≡ Some tell.control.now
   pub line : first_of (codes "line") rows ≡ option_map (λ s. s.now) tell.line
 
+-- the journal of a host, and the image with which the host began, if one is named
+pub record IsReplay (rows : List Row) (asked : ReplayArguments) : Type 0 where
+  pub journal : first_of (codes "journal") rows ≡ Some asked.journal.now
+  pub image : first_of (codes "image") rows ≡ option_map (λ s. s.now) asked.image
+
 -- what the words of a command with this name ask for
 abbrev pub Gives : Text → List Row → Arguments → Type 0
 Gives name rows (Run run) = (name ≡ codes "run") × IsRun rows run
@@ -160,6 +166,7 @@ Gives name rows (Move asked) = (name ≡ codes "move") × IsMove rows asked
 Gives name rows (Audit asked) = (name ≡ codes "audit") × IsMove rows asked
 Gives name rows (Host host) = (name ≡ codes "host") × IsHost rows host
 Gives name rows (Tell tell) = (name ≡ codes "tell") × IsTell rows tell
+Gives name rows (Replay asked) = (name ≡ codes "replay") × IsReplay rows asked
 Gives name rows (Asm asm) =
     (name ≡ codes "asm") × (first_of (codes "source") rows ≡ Some asm.source.now)
     × (first_of (codes "output") rows ≡ Some asm.output.now)

@@ -168,6 +168,10 @@ host =
 abbrev pub tell : App
 tell = with_rule (with_rule (new_app (codes "tell")) (needed (codes "socket"))) (allowed (codes "line"))
 
+-- the command that does again what a journal tells
+abbrev pub replay : App
+replay = with_rule (with_rule (new_app (codes "replay")) (needed (codes "journal"))) (option (codes "image"))
+
 -- the program without its commands, which demands that one is named
 abbrev pub top : App
 top =
@@ -182,8 +186,9 @@ program =
     (with_subcommand
     (with_subcommand
     (with_subcommand
+    (with_subcommand
     (with_subcommand (with_subcommand (with_subcommand (with_subcommand top run.top) asm.top) dis.top)
-    debug.top) script.top) move.top) audit.top) host.top) tell.top
+    debug.top) script.top) move.top) audit.top) host.top) tell.top) replay.top
 
 -- the kinds of which the fault of a command line may be: those that `clap` finds in its words, or else a value that
 -- `clap` takes and the program refuses

@@ -7,7 +7,7 @@ ghost use Rattle.clap.specs.Walk.{rule_of};
 ghost use Rattle.clap.specs.Words.{kind_of};
 ghost use Rattle.clap.specs.declared.builder.command.Command.TheViews.{out-Command as fields_of};
 ghost use Rattle.clap.specs.declared.error.kind.ErrorKind.TheVariants as kind;
-ghost use Rattle.rvm_command_line.specs.Program.{allowed, asm, audit, bounded, debug, dis, flag, host, move, needed, needed_option, number, option, program, run, script, signature, tell, top, with_addresses, with_board, with_default, with_guest, with_hosting, with_journal, with_move, with_name, with_policy, with_report, with_status, with_trace, with_verdict, with_watch, with_world};
+ghost use Rattle.rvm_command_line.specs.Program.{allowed, asm, audit, bounded, debug, dis, flag, host, move, needed, needed_option, number, option, program, replay, run, script, signature, tell, top, with_addresses, with_board, with_default, with_guest, with_hosting, with_journal, with_move, with_name, with_policy, with_report, with_status, with_trace, with_verdict, with_watch, with_world};
 
 use clap::builder::ValueParser;
 use clap::{Arg, ArgAction, Command, Error};
@@ -135,6 +135,14 @@ Lines, beside those of `rvmove debug`:
 Where standard error is a terminal, it shows how far a move has come. The status is 0 if all that was asked
 happened, 1 if something did not, 3 if an answer was lost: then ask for the status of the host.";
 
+/// The text below the help of `replay`.
+const REPLAY_HELP: &str = "\
+Example: rvmove replay a.journal --image hello.elf
+
+JOURNAL is what `rvmove host --journal` wrote. The host is made anew, and does again what each line tells;
+standard output has what the guest sent while it was there, standard error `replayed N events`. A line that
+was changed is told, and ends the replay. A host that began without a guest has no IMAGE.";
+
 /// The command line that the program takes. Fails only if memory runs out.
 pub(crate) fn program<'a>(alloc: Global) -> Result<Command<'a>, Error>
     ensures app { IfOk result (λ c. app_of c ≡ program) }
@@ -148,7 +156,8 @@ pub(crate) fn program<'a>(alloc: Global) -> Result<Command<'a>, Error>
     let program = with_command(program, move_command(alloc))?;
     let program = with_command(program, audit_command(alloc))?;
     let program = with_command(program, host_command(alloc))?;
-    with_command(program, tell_command(alloc))
+    let program = with_command(program, tell_command(alloc))?;
+    with_command(program, replay_command(alloc))
 }
 
 /// The program with one more command, if that command was made. Fails only if it was not, or if memory runs out.
@@ -786,6 +795,26 @@ fn tell_command<'a>(alloc: Global) -> Result<Command<'a>, Error>
                 "line",
                 "LINE",
                 "The line; without it, those of standard input",
+            ))?,
+    )
+}
+
+/// The command `replay`, with the words that it takes.
+fn replay_command<'a>(alloc: Global) -> Result<Command<'a>, Error>
+    ensures app { IfOk result (λ c. app_of c ≡ replay) }
+    ensures local { IfOk result (λ c. (fields_of c).has_globals ≡ false) }
+    ensures memory { IfErr result (λ e. kind_of e ≡ kind.OutOfMemory) }
+{
+    Ok(
+        Command::new(alloc, "replay")
+            .about("Does again what the journal of a host tells, and writes what the guest sent there")
+            .after_help(REPLAY_HELP)
+            .arg(needed(alloc, "journal", "JOURNAL", "The file of the journal"))?
+            .arg(option(
+                alloc,
+                "image",
+                "IMAGE",
+                "The image of the guest with which the host began",
             ))?,
     )
 }

@@ -8,7 +8,7 @@ ghost use Rattle.clap.specs.Simple.{app_of, subcommand_of, subcommand_rows_of};
 ghost use Rattle.clap.specs.Walk.{all_of, first_of, one_of, rows_of};
 ghost use Rattle.clap.specs.Words.{kind_of};
 ghost use Rattle.clap.specs.declared.error.kind.ErrorKind.TheVariants as kind;
-ghost use Rattle.rvm_command_line.specs.Given.{Gives, IsAsked, IsFlag, IsGuest, IsHost, IsInRam, IsMove, IsNumber, IsNumberOr, IsOptionalGuest, IsOptionalNumber, IsReport, IsStatusOf, IsTell, IsTrace};
+ghost use Rattle.rvm_command_line.specs.Given.{Gives, IsAsked, IsFlag, IsGuest, IsHost, IsInRam, IsMove, IsNumber, IsNumberOr, IsOptionalGuest, IsOptionalNumber, IsReplay, IsReport, IsStatusOf, IsTell, IsTrace};
 ghost use Rattle.rvm_text.specs.Numbers.{number_of};
 ghost use Rattle.rvm_command_line.specs.Program.{faults_of, program};
 
@@ -17,7 +17,7 @@ use clap::error::ErrorKind;
 use clap::{ArgMatches, Command, Error};
 use rvm_arguments::{
     Arguments, AsmArguments, DebugArguments, DisArguments, GuestArguments, HostArguments,
-    MoveArguments, Report, ReportArguments, RunArguments, ScriptArguments, StatusOf, TellArguments,
+    MoveArguments, ReplayArguments, Report, ReportArguments, RunArguments, ScriptArguments, StatusOf, TellArguments,
     TraceArguments, WordRange,
 };
 use rvm_mem::{MAX_PAGES, PAGE_SIZE};
@@ -121,6 +121,7 @@ fn read_matches<'a>(matches: &ArgMatches<'a>) -> Result<Arguments<'a>, &'static 
         Some(("audit", words)) => Ok(Arguments::Audit(read_move(words)?)),
         Some(("host", host)) => Ok(Arguments::Host(read_host(host)?)),
         Some(("tell", tell)) => Ok(Arguments::Tell(read_tell(tell)?)),
+        Some(("replay", replay)) => Ok(Arguments::Replay(read_replay(replay)?)),
         _ => Err("a command is missing"),
     }
 }
@@ -461,6 +462,19 @@ fn read_tell<'a>(tell: &ArgMatches<'a>) -> Result<TellArguments<'a>, &'static st
     Ok(TellArguments {
         control,
         line: text(tell, "line"),
+    })
+}
+
+/// The arguments of `replay`. Fails with a text that says which of them is not what it must be.
+fn read_replay<'a>(replay: &ArgMatches<'a>) -> Result<ReplayArguments<'a>, &'static str>
+    ensures { IfOk result (IsReplay (rows_of (found_of replay.now))) }
+{
+    let Some(journal) = text(replay, "journal") else {
+        return Err("JOURNAL is missing");
+    };
+    Ok(ReplayArguments {
+        journal,
+        image: text(replay, "image"),
     })
 }
 
