@@ -17,6 +17,7 @@ pub enum Arguments<'a> {
     Host(HostArguments<'a>),
     Tell(TellArguments<'a>),
     Replay(ReplayArguments<'a>),
+    AuditJournals(JournalsArguments<'a>),
 }
 
 /// A guest: the file of its image, and its board. Each number is within its limits.
@@ -213,4 +214,15 @@ pub struct ReplayArguments<'a> {
     pub journal: &'a str,
     /// The file of the image of the guest with which the host began, if it began with one.
     pub image: Option<&'a str>,
+}
+
+/// The arguments of `rvmove audit-journals`.
+#[derive(Debug, Drop)]
+pub struct JournalsArguments<'a> {
+    /// The file of the image of the guest with which one of the hosts began.
+    pub image: &'a str,
+    /// The files of the hosts' journals, two to eight; none after the last.
+    pub journals: [Option<&'a str>; 8],
+    /// Whether the events of the order that is found are written, in place of a summary.
+    pub order: bool,
 }

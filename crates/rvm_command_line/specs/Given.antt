@@ -1,13 +1,14 @@
 -- What arguments are, by the values that `clap` found for the options of a command.
-use Rattle.std.specs.Prelude.{◌≡◌, ◌≤◌, ◌+◌, ◌*◌, ◌%◌, ℕ, Bool, true, false, [], ◌∷◌, Option, Some, None, option_map, codes}
+use Rattle.std.specs.Prelude.{◌≡◌, ◌≤◌, ◌+◌, ◌*◌, ◌%◌, ℕ, Bool, true, false, [], ◌∷◌, Option, Some, None, map, option_map, codes}
 use Rattle.std.specs.Str.Parse.{IsNumeral, digits_value}
 use Rattle.clap.specs.Walk.{Row, Text, all_of, first_of, one_of}
 use Rattle.std.specs.Prelude.{List}
 use Rattle.rvm_arguments.specs.declared.arguments.Arguments.{Arguments}
-use Rattle.rvm_arguments.specs.declared.arguments.Arguments.TheVariants.{Run, Asm, Dis, Debug, Script, Move, Audit, Host, Tell, Replay}
+use Rattle.rvm_arguments.specs.declared.arguments.Arguments.TheVariants.{Run, Asm, Dis, Debug, Script, Move, Audit, Host, Tell, Replay, AuditJournals}
 use Rattle.rvm_arguments.specs.declared.arguments.DebugArguments.{DebugArguments}
 use Rattle.rvm_arguments.specs.declared.arguments.GuestArguments.{GuestArguments}
 use Rattle.rvm_arguments.specs.declared.arguments.HostArguments.{HostArguments}
+use Rattle.rvm_arguments.specs.declared.arguments.JournalsArguments.{JournalsArguments}
 use Rattle.rvm_arguments.specs.declared.arguments.MoveArguments.{MoveArguments}
 use Rattle.rvm_arguments.specs.declared.arguments.ReplayArguments.{ReplayArguments}
 use Rattle.rvm_arguments.specs.declared.arguments.Report.{Report}
@@ -152,10 +153,22 @@ pub record IsTell (rows : List Row) (tell : TellArguments) : Type 0 where
   pub control : first_of (codes "socket") rows ≡ Some tell.control.now
   pub line : first_of (codes "line") rows ≡ option_map (λ s. s.now) tell.line
 
+-- the words that name journals
+abbrev pub journal_words : List Text
+journal_words =
+    codes "first" ∷ codes "second" ∷ codes "third" ∷ codes "fourth" ∷ codes "fifth" ∷ codes "sixth" ∷ codes "seventh"
+    ∷ codes "eighth" ∷ []
+
 -- the journal of a host, and the image with which the host began, if one is named
 pub record IsReplay (rows : List Row) (asked : ReplayArguments) : Type 0 where
   pub journal : first_of (codes "journal") rows ≡ Some asked.journal.now
   pub image : first_of (codes "image") rows ≡ option_map (λ s. s.now) asked.image
+
+-- the image, the files of the journals, and whether the order is written
+pub record IsJournals (rows : List Row) (asked : JournalsArguments) : Type 0 where
+  pub image : first_of (codes "image") rows ≡ Some asked.image.now
+  pub journals : map (λ id. first_of id rows) journal_words ≡ map (option_map (λ s. s.now)) asked.journals
+  pub order : IsFlag (one_of (codes "order") rows) asked.order
 
 -- what the words of a command with this name ask for
 abbrev pub Gives : Text → List Row → Arguments → Type 0
@@ -167,6 +180,7 @@ Gives name rows (Audit asked) = (name ≡ codes "audit") × IsMove rows asked
 Gives name rows (Host host) = (name ≡ codes "host") × IsHost rows host
 Gives name rows (Tell tell) = (name ≡ codes "tell") × IsTell rows tell
 Gives name rows (Replay asked) = (name ≡ codes "replay") × IsReplay rows asked
+Gives name rows (AuditJournals asked) = (name ≡ codes "audit-journals") × IsJournals rows asked
 Gives name rows (Asm asm) =
     (name ≡ codes "asm") × (first_of (codes "source") rows ≡ Some asm.source.now)
     × (first_of (codes "output") rows ≡ Some asm.output.now)
