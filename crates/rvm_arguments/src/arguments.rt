@@ -221,8 +221,17 @@ pub struct ReplayArguments<'a> {
 pub struct JournalsArguments<'a> {
     /// The file of the image of the guest with which one of the hosts began.
     pub image: &'a str,
-    /// The files of the hosts' journals, two to eight; none after the last.
-    pub journals: [Option<&'a str>; 8],
+    /// The file of a host's journal.
+    pub first: &'a str,
+    /// That of another host.
+    pub second: &'a str,
+    /// Those of further hosts.
+    pub third: Option<&'a str>,
+    pub fourth: Option<&'a str>,
+    pub fifth: Option<&'a str>,
+    pub sixth: Option<&'a str>,
+    pub seventh: Option<&'a str>,
+    pub eighth: Option<&'a str>,
     /// Whether the events of the order that is found are written, in place of a summary.
     pub order: bool,
 }

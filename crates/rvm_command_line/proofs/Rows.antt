@@ -1,5 +1,5 @@
 -- What `clap` gives for an option, by the rows of a command.
-use Rattle.std.proofs.Common.{◌≡◌, ◌∙◌, sym, Option, List, [], ◌∷◌, true, refl, ap, subst, option_map}
+use Rattle.std.proofs.Common.{◌≡◌, ◌∙◌, sym, Option, List, true, refl, ap, subst, option_map}
 use Rattle.clap.specs.Matches.{first_value, matched_of, one_text, raw_values}
 use Rattle.clap.specs.Simple.{App, HasMatchesOf, is_simple, subcommand_of, subcommand_rows_of}
 use Rattle.clap.specs.Walk.{Text, all_of, first_of, one_of, rows_of}
@@ -28,9 +28,3 @@ pub asked_of : (a : App) (words : List Text) (m : ArgMatches) (x : Arguments) �
     → IsAsked (subcommand_rows_of m) x → IsAsked (subcommand_of program words) x
 asked_of a words m x matches made asked =
     subst (λ o. IsAsked o x) ((matches (ap is_simple made ∙ is_simple_program)).1 ∙ ap (λ p. subcommand_of p words) made) asked
-
--- eight options
-pub eight_rows : {A : Type 0} (a b c d e f g h i j k l m n o p : A) → i ≡ a → j ≡ b → k ≡ c → l ≡ d → m ≡ e → n ≡ f
-    → o ≡ g → p ≡ h
-    → a ∷ b ∷ c ∷ d ∷ e ∷ f ∷ g ∷ h ∷ [] ≡ i ∷ j ∷ k ∷ l ∷ m ∷ n ∷ o ∷ p ∷ []
-eight_rows a b c d e f g h i j k l m n o p ai bj ck dl em fn go hp = rw (ai, bj, ck, dl, em, fn, go, hp) refl

@@ -1,5 +1,5 @@
 -- What arguments are, by the values that `clap` found for the options of a command.
-use Rattle.std.specs.Prelude.{◌≡◌, ◌≤◌, ◌+◌, ◌*◌, ◌%◌, ℕ, Bool, true, false, [], ◌∷◌, Option, Some, None, map, option_map, codes}
+use Rattle.std.specs.Prelude.{◌≡◌, ◌≤◌, ◌+◌, ◌*◌, ◌%◌, ℕ, Bool, true, false, [], ◌∷◌, Option, Some, None, option_map, codes}
 use Rattle.std.specs.Str.Parse.{IsNumeral, digits_value}
 use Rattle.clap.specs.Walk.{Row, Text, all_of, first_of, one_of}
 use Rattle.std.specs.Prelude.{List}
@@ -153,12 +153,6 @@ pub record IsTell (rows : List Row) (tell : TellArguments) : Type 0 where
   pub control : first_of (codes "socket") rows ≡ Some tell.control.now
   pub line : first_of (codes "line") rows ≡ option_map (λ s. s.now) tell.line
 
--- the words that name journals
-abbrev pub journal_words : List Text
-journal_words =
-    codes "first" ∷ codes "second" ∷ codes "third" ∷ codes "fourth" ∷ codes "fifth" ∷ codes "sixth" ∷ codes "seventh"
-    ∷ codes "eighth" ∷ []
-
 -- the journal of a host, and the image with which the host began, if one is named
 pub record IsReplay (rows : List Row) (asked : ReplayArguments) : Type 0 where
   pub journal : first_of (codes "journal") rows ≡ Some asked.journal.now
@@ -167,7 +161,14 @@ pub record IsReplay (rows : List Row) (asked : ReplayArguments) : Type 0 where
 -- the image, the files of the journals, and whether the order is written
 pub record IsJournals (rows : List Row) (asked : JournalsArguments) : Type 0 where
   pub image : first_of (codes "image") rows ≡ Some asked.image.now
-  pub journals : map (λ id. first_of id rows) journal_words ≡ map (option_map (λ s. s.now)) asked.journals
+  pub first : first_of (codes "first") rows ≡ Some asked.first.now
+  pub second : first_of (codes "second") rows ≡ Some asked.second.now
+  pub third : first_of (codes "third") rows ≡ option_map (λ s. s.now) asked.third
+  pub fourth : first_of (codes "fourth") rows ≡ option_map (λ s. s.now) asked.fourth
+  pub fifth : first_of (codes "fifth") rows ≡ option_map (λ s. s.now) asked.fifth
+  pub sixth : first_of (codes "sixth") rows ≡ option_map (λ s. s.now) asked.sixth
+  pub seventh : first_of (codes "seventh") rows ≡ option_map (λ s. s.now) asked.seventh
+  pub eighth : first_of (codes "eighth") rows ≡ option_map (λ s. s.now) asked.eighth
   pub order : IsFlag (one_of (codes "order") rows) asked.order
 
 -- what the words of a command with this name ask for

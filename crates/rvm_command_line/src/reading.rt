@@ -467,25 +467,28 @@ fn read_tell<'a>(tell: &ArgMatches<'a>) -> Result<TellArguments<'a>, &'static st
 }
 
 /// The arguments of `audit-journals`. Fails with a text that says which of them is not what it must be.
-#[tactic(auto, using(crate::proofs::Rows::eight_rows))]
 fn read_journals<'a>(words: &ArgMatches<'a>) -> Result<JournalsArguments<'a>, &'static str>
     ensures { IfOk result (IsJournals (rows_of (found_of words.now))) }
 {
     let Some(image) = text(words, "image") else {
         return Err("--image is missing");
     };
+    let Some(first) = text(words, "first") else {
+        return Err("JOURNAL is missing");
+    };
+    let Some(second) = text(words, "second") else {
+        return Err("a second JOURNAL is missing");
+    };
     Ok(JournalsArguments {
         image,
-        journals: [
-            text(words, "first"),
-            text(words, "second"),
-            text(words, "third"),
-            text(words, "fourth"),
-            text(words, "fifth"),
-            text(words, "sixth"),
-            text(words, "seventh"),
-            text(words, "eighth"),
-        ],
+        first,
+        second,
+        third: text(words, "third"),
+        fourth: text(words, "fourth"),
+        fifth: text(words, "fifth"),
+        sixth: text(words, "sixth"),
+        seventh: text(words, "seventh"),
+        eighth: text(words, "eighth"),
         order: flag(words, "order"),
     })
 }

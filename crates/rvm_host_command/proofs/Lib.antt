@@ -3,3 +3,5 @@ pub mod Answered
 mod Examples
 pub mod Told
 pub mod Hosted
+pub mod JournalFiles
+pub mod JournalLines

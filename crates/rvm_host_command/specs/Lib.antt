@@ -1,3 +1,4 @@
 pub mod Hosted
 pub mod Told
 pub mod Answered
+pub mod Journals

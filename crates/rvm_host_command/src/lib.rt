@@ -1,11 +1,13 @@
 //! `rvmove host` and `rvmove tell`: a host in a process of its own, whose guest can move to hosts in other processes
-//! while it runs, and the command with which an operator tells it what to do.
+//! while it runs, and the command with which an operator tells it what to do; and `rvmove audit` of the journals that
+//! such processes kept.
 //!
-//! Stands on `rvm_cell` for the workers of a host, on `rvm_greeting` for greetings, and on sockets of the runtime. It
-//! must not know files, but for the socket of operators.
+//! Stands on `rvm_cell` for the workers of a host, on `rvm_greeting` for greetings, on sockets of the runtime, and on
+//! `rvm_journal`, `rvm_recorder` and `rvm_audit` for journals. It must not know files, but for the socket of operators.
 //!
 //! To be read in this order: `fault`, `address`, `outbound`, `timed`, `door`, `process`, `meeting`, `peer`, `accepter`,
-//! `ticker`, `operators`, `answers`, `control`, `threads`, `turns`, `hosting`, `host_command`, `tell_command`.
+//! `ticker`, `operators`, `answers`, `control`, `threads`, `turns`, `hosting`, `host_command`, `tell_command`;
+//! `journal_file`, `journal_hosts`, `journal_counts`, `journal_audit`.
 #![tactic(auto)]
 
 mod accepter;
@@ -16,6 +18,10 @@ mod door;
 pub mod fault;
 pub mod host_command;
 pub mod hosting;
+pub mod journal_audit;
+mod journal_counts;
+pub mod journal_file;
+mod journal_hosts;
 mod meeting;
 pub mod operators;
 mod outbound;

@@ -163,11 +163,11 @@ of_slice old new turn harts n made answer done made_is =
     let room = with_room old (most_of old n) in
     let left = room.journal.reserved - length xs in
     let longer : count_of new ≡ count_of old + length xs =
-        ap (λ r. length r.journal.entries) slice.next ∙ length-append old.journal.entries xs in
+    ap (λ r. length r.journal.entries) slice.next ∙ length-append old.journal.entries xs in
     let made_all : made ≡ length xs = omega (arith, made_is, longer) in
     let told = added room xs left new slice.next in
     let steps : events_in xs ≡ steps_from turn harts made =
-        steps_of_slice xs turn harts slice.slice.events ∙ ap (steps_from turn harts) (sym made_all) in
+    steps_of_slice xs turn harts slice.slice.events ∙ ap (steps_from turn harts) (sym made_all) in
     let some = slice.slice.some in
     let bound = slice.slice.bound in (
       record {

@@ -1,12 +1,13 @@
 -- The first line of a journal: its text, and what that text tells.
-use Rattle.std.specs.Prelude.{ℕ, ◌+◌, ◌-◌, ◌*◌, ◌^◌, ◌==◌, ◌&&◌, nat_le, nat_lt, Bool, true, false, if◌then◌else◌, List, [], ◌∷◌, ◌++◌, Option, Some, None, Result, Ok, Err, codes, option_map}
+use Rattle.std.specs.Prelude.{ℕ, ◌+◌, ◌-◌, ◌*◌, ◌^◌, ◌==◌, ◌&&◌, nat_le, nat_lt, Bool, true, false, if◌then◌else◌, List, [], ◌∷◌, ◌++◌, take, Option, Some, None, Result, Ok, Err, codes, option_map}
 use Rattle.std.specs.Fmt.{decimal}
 use Rattle.std.specs.Str.{bytes_eq}
 use Rattle.hex.specs.Hex.{decode_sized, encode_lower}
 use Rattle.hex.specs.declared.error.FromHexError.{FromHexError}
 use Rattle.rvm_codec.specs.Codec.{◌>>=◌}
-use Rattle.rvm_debug.specs.Words.{words}
+use Rattle.rvm_debug.specs.Words.{lines, words}
 use Rattle.rvm_text.specs.Bytes.{is_digit}
+use Rattle.rvm_journal.specs.Told.{digest_behind, mark, no_digest, text_in}
 use Rattle.rvm_journal.specs.declared.header.Header.{Header}
 use Rattle.rvm_journal.specs.declared.header.Image.{Image}
 
@@ -102,3 +103,12 @@ header_in ws =
 -- the header that a text tells, without the digest before it and without its line feed
 unfoldable pub header_of : List ℕ → Option Header
 header_of text = header_in (words text)
+
+-- the header that the first line tells, if that line shows its own digest
+abbrev pub first_header : List (List ℕ) → Option Header
+first_header [] = None
+first_header (l ∷ ls) = if bytes_eq (take 17 l) (mark (digest_behind no_digest l)) then header_of (text_in l) else None
+
+-- the header of a journal with these bytes
+unfoldable pub header_at : (bytes : List ℕ) → Option Header
+header_at bytes = first_header (lines bytes)

@@ -1,6 +1,6 @@
 //! The first line of a journal.
 
-ghost use Rattle.std.specs.Prelude.{◌≡◌, ◌≤◌, IfOk, IfSome, MatchOption, None, OnOk, Some};
+ghost use Rattle.std.specs.Prelude.{◌≡◌, ◌<◌, ◌≤◌, IfOk, IfSome, MatchOption, None, OnOk, Some};
 ghost use Rattle.std.specs.Io.KnownBytes.{Appends};
 ghost use Rattle.hex.specs.Hex.{decode_sized};
 ghost use Rattle.sha2.specs.Sha256.{sha256};
@@ -60,7 +60,8 @@ impl Header {
     /// Reads the text of a header, without the digest before it and without its line feed. None if it tells no header.
     #[tactic(auto, unfolding(crate::specs::Headers::header_of))]
     pub fn read(text: &[u8]) -> Option<Header>
-        ensures { result ≡ header_of text.now }
+        ensures header { result ≡ header_of text.now }
+        ensures range { IfSome result (λ header. (2 ≤ header.hosts) × (header.hosts ≤ 8) × (header.host < header.hosts)) }
     {
         let mut words = Words::new(text);
         let _version = field(&mut words, b"journal", 1, 1)?;
@@ -122,7 +123,9 @@ fn long_in(word: &[u8]) -> Option<u64>
         if !digit.is_ascii_digit() {
             return None;
         }
-        number = number.checked_mul(10)?.checked_add(u64::from(*digit - b'0'))?;
+        number = number
+            .checked_mul(10)?
+            .checked_add(u64::from(*digit - b'0'))?;
     }
     Some(number)
 }

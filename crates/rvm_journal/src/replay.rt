@@ -5,11 +5,13 @@ ghost use Rattle.std.specs.Str.{bytes_eq};
 ghost use Rattle.rvm_cell.specs.Logs.{steps_from};
 ghost use Rattle.rvm_debug.specs.Words.{lines};
 ghost use Rattle.rvm_message.specs.declared.event.HostEvent.TheVariants.{Came};
+ghost use Rattle.rvm_journal.specs.Headers.{header_at};
 ghost use Rattle.rvm_journal.specs.Noting.{events_of};
 ghost use Rattle.rvm_journal.specs.Replaying.{HasHarts, HasMore, IsFull, IsJournalFault, IsLineDone, IsLineFault, IsReplayed, Records, noted_at};
 ghost use Rattle.rvm_journal.specs.Told.{header_told, mark, text_in};
 
 use crate::digest::{LineDigest, MARK};
+use crate::header::Header;
 use crate::noted::Noted;
 use crate::run::Run;
 use rvm_debug::split_line;
@@ -80,6 +82,24 @@ fn begin(line: &[u8]) -> Option<LineDigest>
     } else {
         None
     }
+}
+
+/// Reads the header of a journal with these bytes: that of the text of the first line. None if there is no line, if the
+/// first line does not show its digest, or if its text tells no header.
+#[tactic(auto, unfolding(crate::specs::Headers::header_at))]
+pub fn read_header(bytes: &[u8]) -> Option<Header>
+    ensures header { result ≡ header_at bytes.now }
+    ensures range { IfSome result (λ header. (2 ≤ header.hosts) × (header.hosts ≤ 8) × (header.host < header.hosts)) }
+{
+    if bytes.is_empty() {
+        return None;
+    }
+    let (line, _rest) = split_line(bytes);
+    let digest = LineDigest::none().after(text_in(line));
+    if !shows(line, &digest) {
+        return None;
+    }
+    Header::read(text_in(line))
 }
 
 /// Has a recorded host do what a line tells, which has this number and comes after one with digest `before`. Returns the

@@ -7,7 +7,7 @@ use Rattle.rvm_journal.proofs.Replayed.{header_done, line_done, lines_done}
 use Rattle.rvm_journal.proofs.replay.replay_journal.Goals as goal
 
 pub returns-then-is_empty-clause-fault : goal.returns-then-is_empty-clause-fault
-returns-then-is_empty-clause-fault g c = 
+returns-then-is_empty-clause-fault g c =
     inl (refl, lines_of_none c.args.bytes.now c.is_empty.result c.is_empty.ensures c.if-is_empty.true)
 
 pub loop-rest-init : goal.loop-rest-init
@@ -24,9 +24,9 @@ loop-rest-preserved g c =
     let within = c.loop-rest.invariant.0 in (
       omega (arith, shorter, within),
       line_done c.args.hosts c.args.host (lines c.args.bytes.now) (lines c.loop-rest.rest.now)
-      (lines c.split_line-in-loop-rest.result.1.now) c.split_line-in-loop-rest.result.0.now c.loop-rest.digest.bytes
-      c.in_ok-digest.digest.bytes c.loop-rest.number (c.loop-rest.number + 1) c.args.recorded.now c.loop-rest.recorded
-      c.do_line.new.recorded c.loop-rest.invariant.1 c.split_line-in-loop-rest.ensures.lines c.in_ok-digest.ensures.done refl,
+          (lines c.split_line-in-loop-rest.result.1.now) c.split_line-in-loop-rest.result.0.now c.loop-rest.digest.bytes
+          c.in_ok-digest.digest.bytes c.loop-rest.number (c.loop-rest.number + 1) c.args.recorded.now c.loop-rest.recorded
+          c.do_line.new.recorded c.loop-rest.invariant.1 c.split_line-in-loop-rest.ensures.lines c.in_ok-digest.ensures.done refl,
     )
 
 pub returns-clause-told : goal.returns-clause-told
