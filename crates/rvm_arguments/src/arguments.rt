@@ -17,7 +17,6 @@ pub enum Arguments<'a> {
     Host(HostArguments<'a>),
     Tell(TellArguments<'a>),
     Replay(ReplayArguments<'a>),
-    AuditJournals(JournalsArguments<'a>),
 }
 
 /// A guest: the file of its image, and its board. Each number is within its limits.
@@ -214,24 +213,4 @@ pub struct ReplayArguments<'a> {
     pub journal: &'a str,
     /// The file of the image of the guest with which the host began, if it began with one.
     pub image: Option<&'a str>,
-}
-
-/// The arguments of `rvmove audit-journals`.
-#[derive(Debug, Drop)]
-pub struct JournalsArguments<'a> {
-    /// The file of the image of the guest with which one of the hosts began.
-    pub image: &'a str,
-    /// The file of a host's journal.
-    pub first: &'a str,
-    /// That of another host.
-    pub second: &'a str,
-    /// Those of further hosts.
-    pub third: Option<&'a str>,
-    pub fourth: Option<&'a str>,
-    pub fifth: Option<&'a str>,
-    pub sixth: Option<&'a str>,
-    pub seventh: Option<&'a str>,
-    pub eighth: Option<&'a str>,
-    /// Whether the events of the order that is found are written, in place of a summary.
-    pub order: bool,
 }

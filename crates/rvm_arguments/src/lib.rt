@@ -7,7 +7,6 @@ mod arguments;
 
 pub use arguments::{
     Arguments, AsmArguments, DebugArguments, DisArguments, GuestArguments, HostArguments,
-    JournalsArguments,
     MoveArguments, ReplayArguments, Report, ReportArguments, RunArguments, ScriptArguments, StatusOf, TellArguments,
     TraceArguments, WordRange,
 };

@@ -4,11 +4,10 @@ use Rattle.std.specs.Str.Parse.{IsNumeral, digits_value}
 use Rattle.clap.specs.Walk.{Row, Text, all_of, first_of, one_of}
 use Rattle.std.specs.Prelude.{List}
 use Rattle.rvm_arguments.specs.declared.arguments.Arguments.{Arguments}
-use Rattle.rvm_arguments.specs.declared.arguments.Arguments.TheVariants.{Run, Asm, Dis, Debug, Script, Move, Audit, Host, Tell, Replay, AuditJournals}
+use Rattle.rvm_arguments.specs.declared.arguments.Arguments.TheVariants.{Run, Asm, Dis, Debug, Script, Move, Audit, Host, Tell, Replay}
 use Rattle.rvm_arguments.specs.declared.arguments.DebugArguments.{DebugArguments}
 use Rattle.rvm_arguments.specs.declared.arguments.GuestArguments.{GuestArguments}
 use Rattle.rvm_arguments.specs.declared.arguments.HostArguments.{HostArguments}
-use Rattle.rvm_arguments.specs.declared.arguments.JournalsArguments.{JournalsArguments}
 use Rattle.rvm_arguments.specs.declared.arguments.MoveArguments.{MoveArguments}
 use Rattle.rvm_arguments.specs.declared.arguments.ReplayArguments.{ReplayArguments}
 use Rattle.rvm_arguments.specs.declared.arguments.Report.{Report}
@@ -158,19 +157,6 @@ pub record IsReplay (rows : List Row) (asked : ReplayArguments) : Type 0 where
   pub journal : first_of (codes "journal") rows ≡ Some asked.journal.now
   pub image : first_of (codes "image") rows ≡ option_map (λ s. s.now) asked.image
 
--- the image, the files of the journals, and whether the order is written
-pub record IsJournals (rows : List Row) (asked : JournalsArguments) : Type 0 where
-  pub image : first_of (codes "image") rows ≡ Some asked.image.now
-  pub first : first_of (codes "first") rows ≡ Some asked.first.now
-  pub second : first_of (codes "second") rows ≡ Some asked.second.now
-  pub third : first_of (codes "third") rows ≡ option_map (λ s. s.now) asked.third
-  pub fourth : first_of (codes "fourth") rows ≡ option_map (λ s. s.now) asked.fourth
-  pub fifth : first_of (codes "fifth") rows ≡ option_map (λ s. s.now) asked.fifth
-  pub sixth : first_of (codes "sixth") rows ≡ option_map (λ s. s.now) asked.sixth
-  pub seventh : first_of (codes "seventh") rows ≡ option_map (λ s. s.now) asked.seventh
-  pub eighth : first_of (codes "eighth") rows ≡ option_map (λ s. s.now) asked.eighth
-  pub order : IsFlag (one_of (codes "order") rows) asked.order
-
 -- what the words of a command with this name ask for
 abbrev pub Gives : Text → List Row → Arguments → Type 0
 Gives name rows (Run run) = (name ≡ codes "run") × IsRun rows run
@@ -181,7 +167,6 @@ Gives name rows (Audit asked) = (name ≡ codes "audit") × IsMove rows asked
 Gives name rows (Host host) = (name ≡ codes "host") × IsHost rows host
 Gives name rows (Tell tell) = (name ≡ codes "tell") × IsTell rows tell
 Gives name rows (Replay asked) = (name ≡ codes "replay") × IsReplay rows asked
-Gives name rows (AuditJournals asked) = (name ≡ codes "audit-journals") × IsJournals rows asked
 Gives name rows (Asm asm) =
     (name ≡ codes "asm") × (first_of (codes "source") rows ≡ Some asm.source.now)
     × (first_of (codes "output") rows ≡ Some asm.output.now)

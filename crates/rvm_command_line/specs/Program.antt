@@ -172,30 +172,6 @@ tell = with_rule (with_rule (new_app (codes "tell")) (needed (codes "socket"))) 
 abbrev pub replay : App
 replay = with_rule (with_rule (new_app (codes "replay")) (needed (codes "journal"))) (option (codes "image"))
 
--- a command that takes the files of two to eight journals
-abbrev pub with_journals : App → App
-with_journals command =
-    with_rule
-    (with_rule
-    (with_rule
-    (with_rule
-    (with_rule
-    (with_rule
-    (with_rule (with_rule command (needed (codes "first"))) (needed (codes "second")))
-    (allowed (codes "third")))
-    (allowed (codes "fourth")))
-    (allowed (codes "fifth")))
-    (allowed (codes "sixth")))
-    (allowed (codes "seventh")))
-    (allowed (codes "eighth"))
-
--- the command that puts the journals of hosts in order
-abbrev pub audit_journals : App
-audit_journals =
-    with_rule
-    (with_rule (with_journals (new_app (codes "audit-journals"))) (needed_option (codes "image")))
-    (flag (codes "order"))
-
 -- the program without its commands, which demands that one is named
 abbrev pub top : App
 top =
@@ -211,9 +187,8 @@ program =
     (with_subcommand
     (with_subcommand
     (with_subcommand
-    (with_subcommand
     (with_subcommand (with_subcommand (with_subcommand (with_subcommand top run.top) asm.top) dis.top)
-    debug.top) script.top) move.top) audit.top) host.top) tell.top) replay.top) audit_journals.top
+    debug.top) script.top) move.top) audit.top) host.top) tell.top) replay.top
 
 -- the kinds of which the fault of a command line may be: those that `clap` finds in its words, or else a value that
 -- `clap` takes and the program refuses

@@ -7,7 +7,7 @@ ghost use Rattle.clap.specs.Walk.{rule_of};
 ghost use Rattle.clap.specs.Words.{kind_of};
 ghost use Rattle.clap.specs.declared.builder.command.Command.TheViews.{out-Command as fields_of};
 ghost use Rattle.clap.specs.declared.error.kind.ErrorKind.TheVariants as kind;
-ghost use Rattle.rvm_command_line.specs.Program.{allowed, asm, audit, audit_journals, bounded, debug, dis, flag, host, move, needed, needed_option, number, option, program, replay, run, script, signature, tell, top, with_addresses, with_board, with_default, with_guest, with_hosting, with_journal, with_journals, with_move, with_name, with_policy, with_report, with_status, with_trace, with_verdict, with_watch, with_world};
+ghost use Rattle.rvm_command_line.specs.Program.{allowed, asm, audit, bounded, debug, dis, flag, host, move, needed, needed_option, number, option, program, replay, run, script, signature, tell, top, with_addresses, with_board, with_default, with_guest, with_hosting, with_journal, with_move, with_name, with_policy, with_report, with_status, with_trace, with_verdict, with_watch, with_world};
 
 use clap::builder::ValueParser;
 use clap::{Arg, ArgAction, Command, Error};
@@ -143,16 +143,6 @@ JOURNAL is what `rvmove host --journal` wrote. The host is made anew, and does a
 standard output has what the guest sent while it was there, standard error `replayed N events`. A line that
 was changed is told, and ends the replay. A host that began without a guest has no IMAGE.";
 
-/// The text below the help of `audit-journals`.
-const AUDIT_JOURNALS_HELP: &str = "\
-Example: rvmove audit-journals a.journal b.journal c.journal --image hello.elf
-
-The journals are those that the hosts of one world wrote, in any order; a host without one is taken as one
-at which nothing happened. The hosts are made anew, each does again what its journal tells, and the journals
-are put into one order of the world, in which each frame that came was made before: so the guest never moved.
-Standard output has a summary, or with --order the events, as lines of a script.
-The status is 0 if there is such an order, and 1 if there is none or a journal is refused.";
-
 /// The command line that the program takes. Fails only if memory runs out.
 pub(crate) fn program<'a>(alloc: Global) -> Result<Command<'a>, Error>
     ensures app { IfOk result (λ c. app_of c ≡ program) }
@@ -167,8 +157,7 @@ pub(crate) fn program<'a>(alloc: Global) -> Result<Command<'a>, Error>
     let program = with_command(program, audit_command(alloc))?;
     let program = with_command(program, host_command(alloc))?;
     let program = with_command(program, tell_command(alloc))?;
-    let program = with_command(program, replay_command(alloc))?;
-    with_command(program, audit_journals_command(alloc))
+    with_command(program, replay_command(alloc))
 }
 
 /// The program with one more command, if that command was made. Fails only if it was not, or if memory runs out.
@@ -826,53 +815,6 @@ fn replay_command<'a>(alloc: Global) -> Result<Command<'a>, Error>
                 "image",
                 "IMAGE",
                 "The image of the guest with which the host began",
-            ))?,
-    )
-}
-
-/// Adds to a command the words that name the files of two to eight journals.
-fn journals_command<'a>(command: Command<'a>, alloc: Global) -> Result<Command<'a>, Error>
-    ensures app { IfOk result (λ c. app_of c ≡ with_journals (app_of command.entry)) }
-    ensures local { (fields_of command.entry).has_globals ≡ false
-        → IfOk result (λ c. (fields_of c).has_globals ≡ false) }
-    ensures memory { IfErr result (λ e. kind_of e ≡ kind.OutOfMemory) }
-{
-    let command = command
-        .arg(needed(alloc, "first", "JOURNAL", "The journal of a host"))?
-        .arg(needed(alloc, "second", "JOURNAL", "That of another one"))?;
-    let command = command
-        .arg(allowed(alloc, "third", "JOURNAL", "A third one"))?
-        .arg(allowed(alloc, "fourth", "JOURNAL", "A fourth one"))?
-        .arg(allowed(alloc, "fifth", "JOURNAL", "A fifth one"))?;
-    Ok(
-        command
-            .arg(allowed(alloc, "sixth", "JOURNAL", "A sixth one"))?
-            .arg(allowed(alloc, "seventh", "JOURNAL", "A seventh one"))?
-            .arg(allowed(alloc, "eighth", "JOURNAL", "An eighth one"))?,
-    )
-}
-
-/// The command `audit-journals`, with the words that it takes.
-fn audit_journals_command<'a>(alloc: Global) -> Result<Command<'a>, Error>
-    ensures app { IfOk result (λ c. app_of c ≡ audit_journals) }
-    ensures local { IfOk result (λ c. (fields_of c).has_globals ≡ false) }
-    ensures memory { IfErr result (λ e. kind_of e ≡ kind.OutOfMemory) }
-{
-    let audit = Command::new(alloc, "audit-journals")
-        .about("Puts the journals of the hosts of a world into one order of what all of them did")
-        .after_help(AUDIT_JOURNALS_HELP);
-    Ok(
-        journals_command(audit, alloc)?
-            .arg(needed_option(
-                alloc,
-                "image",
-                "IMAGE",
-                "The image of the guest with which one of the hosts began",
-            ))?
-            .arg(flag(
-                alloc,
-                "order",
-                "Writes the events of the order, in place of a summary",
             ))?,
     )
 }

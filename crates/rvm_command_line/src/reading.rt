@@ -8,7 +8,7 @@ ghost use Rattle.clap.specs.Simple.{app_of, subcommand_of, subcommand_rows_of};
 ghost use Rattle.clap.specs.Walk.{all_of, first_of, one_of, rows_of};
 ghost use Rattle.clap.specs.Words.{kind_of};
 ghost use Rattle.clap.specs.declared.error.kind.ErrorKind.TheVariants as kind;
-ghost use Rattle.rvm_command_line.specs.Given.{Gives, IsAsked, IsFlag, IsGuest, IsHost, IsInRam, IsJournals, IsMove, IsNumber, IsNumberOr, IsOptionalGuest, IsOptionalNumber, IsReplay, IsReport, IsStatusOf, IsTell, IsTrace};
+ghost use Rattle.rvm_command_line.specs.Given.{Gives, IsAsked, IsFlag, IsGuest, IsHost, IsInRam, IsMove, IsNumber, IsNumberOr, IsOptionalGuest, IsOptionalNumber, IsReplay, IsReport, IsStatusOf, IsTell, IsTrace};
 ghost use Rattle.rvm_text.specs.Numbers.{number_of};
 ghost use Rattle.rvm_command_line.specs.Program.{faults_of, program};
 
@@ -17,7 +17,7 @@ use clap::error::ErrorKind;
 use clap::{ArgMatches, Command, Error};
 use rvm_arguments::{
     Arguments, AsmArguments, DebugArguments, DisArguments, GuestArguments, HostArguments,
-    JournalsArguments, MoveArguments, ReplayArguments, Report, ReportArguments, RunArguments, ScriptArguments, StatusOf, TellArguments,
+    MoveArguments, ReplayArguments, Report, ReportArguments, RunArguments, ScriptArguments, StatusOf, TellArguments,
     TraceArguments, WordRange,
 };
 use rvm_mem::{MAX_PAGES, PAGE_SIZE};
@@ -122,7 +122,6 @@ fn read_matches<'a>(matches: &ArgMatches<'a>) -> Result<Arguments<'a>, &'static 
         Some(("host", host)) => Ok(Arguments::Host(read_host(host)?)),
         Some(("tell", tell)) => Ok(Arguments::Tell(read_tell(tell)?)),
         Some(("replay", replay)) => Ok(Arguments::Replay(read_replay(replay)?)),
-        Some(("audit-journals", words)) => Ok(Arguments::AuditJournals(read_journals(words)?)),
         _ => Err("a command is missing"),
     }
 }
@@ -463,33 +462,6 @@ fn read_tell<'a>(tell: &ArgMatches<'a>) -> Result<TellArguments<'a>, &'static st
     Ok(TellArguments {
         control,
         line: text(tell, "line"),
-    })
-}
-
-/// The arguments of `audit-journals`. Fails with a text that says which of them is not what it must be.
-fn read_journals<'a>(words: &ArgMatches<'a>) -> Result<JournalsArguments<'a>, &'static str>
-    ensures { IfOk result (IsJournals (rows_of (found_of words.now))) }
-{
-    let Some(image) = text(words, "image") else {
-        return Err("--image is missing");
-    };
-    let Some(first) = text(words, "first") else {
-        return Err("JOURNAL is missing");
-    };
-    let Some(second) = text(words, "second") else {
-        return Err("a second JOURNAL is missing");
-    };
-    Ok(JournalsArguments {
-        image,
-        first,
-        second,
-        third: text(words, "third"),
-        fourth: text(words, "fourth"),
-        fifth: text(words, "fifth"),
-        sixth: text(words, "sixth"),
-        seventh: text(words, "seventh"),
-        eighth: text(words, "eighth"),
-        order: flag(words, "order"),
     })
 }
 

@@ -5,3 +5,4 @@ pub mod Told
 pub mod Hosted
 pub mod JournalFiles
 pub mod JournalLines
+mod Showing

@@ -2,3 +2,4 @@ pub mod Hosted
 pub mod Told
 pub mod Answered
 pub mod Journals
+pub mod Consoles

@@ -1,4 +1,4 @@
-//! `rvmove audit` of journals in files: whether what the hosts of a world noted, each by itself, has one order.
+//! `rvmove audit-journals`: whether what the hosts of a world noted, each by itself, has one order.
 
 ghost use Rattle.std.specs.Prelude.{◌≡◌, ◌⊎◌, ◌≤◌, IfOk, OnOk, length, map};
 ghost use Rattle.std.specs.Io.KnownBytes.{Appends};

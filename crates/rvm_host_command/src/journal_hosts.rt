@@ -88,7 +88,7 @@ fn replay_file<M: PagedMemory + Drop>(
 }
 
 /// Makes the host of a journal with this header, and has it do what the journal tells.
-fn replay_bytes<M: PagedMemory + Drop>(
+pub(crate) fn replay_bytes<M: PagedMemory + Drop>(
     alloc: Global,
     header: &Header,
     bytes: &[u8],

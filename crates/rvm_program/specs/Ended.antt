@@ -2,12 +2,13 @@
 use Rattle.std.specs.Borrow.{Bor}
 use Rattle.std.specs.Prelude.{◌≡◌, ◌⊎◌, ⊤, ℕ, zero, suc, true, List, [], Option, None, Some, Result, option_map}
 use Rattle.rvm_arguments.specs.declared.arguments.Arguments.{Arguments}
-use Rattle.rvm_arguments.specs.declared.arguments.Arguments.TheVariants.{Run, Asm, Dis, Debug, Script, Move, Audit, Host, Tell}
+use Rattle.rvm_arguments.specs.declared.arguments.Arguments.TheVariants.{Run, Asm, Dis, Debug, Script, Move, Audit, Host, Tell, Replay}
 use Rattle.rvm_arguments.specs.declared.arguments.AsmArguments.{AsmArguments}
 use Rattle.rvm_arguments.specs.declared.arguments.DebugArguments.{DebugArguments}
 use Rattle.rvm_arguments.specs.declared.arguments.DisArguments.{DisArguments}
 use Rattle.rvm_arguments.specs.declared.arguments.HostArguments.{HostArguments}
 use Rattle.rvm_arguments.specs.declared.arguments.MoveArguments.{MoveArguments}
+use Rattle.rvm_arguments.specs.declared.arguments.ReplayArguments.{ReplayArguments}
 use Rattle.rvm_arguments.specs.declared.arguments.ReportArguments.{ReportArguments}
 use Rattle.rvm_arguments.specs.declared.arguments.RunArguments.{RunArguments}
 use Rattle.rvm_arguments.specs.declared.arguments.ScriptArguments.{ScriptArguments}
@@ -17,6 +18,7 @@ use Rattle.rvm_command.specs.declared.refused.Refused.{Refused}
 use Rattle.rvm_command.specs.declared.run.Ended.{Ended}
 use Rattle.rvm_command.specs.Ends.{HasStatus, IsAsmEnd, IsDebugEnd, IsListEnd, IsRunEnd, RunHasStatus}
 use Rattle.rvm_command.specs.Refusals.{IsTold, refused}
+use Rattle.rvm_host_command.specs.Consoles.{IsShownAgain}
 use Rattle.rvm_host_command.specs.Hosted.{IsHostedTo}
 use Rattle.rvm_move.specs.Ended.{IsMoved, IsNotMoved}
 use Rattle.rvm_move.specs.Orders.{IsAudited, IsNotAudited}
@@ -148,6 +150,26 @@ HostEnded files a (suc (suc (suc (suc n)))) output = ⊥
 abbrev pub TellEnded : (status : ℕ) → Type 0
 TellEnded status = (status ≡ 0) ⊎ ((status ≡ 1) ⊎ (status ≡ 3))
 
+-- the bytes of a file, if it is named
+abbrev pub IsFileOrNone : (files : Named) → (name : Option (Bor (List ℕ))) → (bytes : List ℕ) → Type 0
+IsFileOrNone files None bytes = bytes ≡ []
+IsFileOrNone files (Some name) bytes = IsFile (files name.now) bytes
+
+-- `replay` was given the files that it names, and the host did again what the journal tells; the output has what the
+-- guest sent while it was there
+pub record HasReplayed (files : Named) (a : ReplayArguments) (output : Written) : Type 0 where
+  pub journal : List ℕ
+  pub image : List ℕ
+  pub journal_is : IsFile (files a.journal.now) journal
+  pub image_is : IsFileOrNone files a.image image
+  pub shown : IsShownAgain journal image output.before output.after
+
+-- by the status: `replay` did all of it, or something was refused or failed
+abbrev pub ReplayEnded : (files : Named) → ReplayArguments → (status : ℕ) → (output : Written) → Type 0
+ReplayEnded files a zero output = HasReplayed files a output
+ReplayEnded files a (suc zero) output = ⊤
+ReplayEnded files a (suc (suc n)) output = ⊥
+
 -- what a command line asks for ended with this status
 abbrev pub HasEnded : (files created : Named) → Arguments → (status : ℕ) → (script : Option (List ℕ))
     → (output errors : Written) → Type 0
@@ -160,6 +182,7 @@ HasEnded files created (Move a) status script output errors = MoveEnded files a 
 HasEnded files created (Audit a) status script output errors = AuditEnded files a status output.before errors
 HasEnded files created (Host a) status script output errors = HostEnded files a status output
 HasEnded files created (Tell a) status script output errors = TellEnded status
+HasEnded files created (Replay a) status script output errors = ReplayEnded files a status output
 
 -- a command did not begin, since a file could not be opened or read, memory ran out, or a file has more bytes than it
 -- may have; and that was reported

@@ -17,6 +17,9 @@ use std::rt::Files;
 /// file of `host`. The limit of a script is its own, and is the same.
 pub const MAX_FILE_SIZE: u32 = 1 << 26;
 
+/// The most bytes of the file of a journal.
+pub const MAX_JOURNAL_SIZE: u32 = 1 << 30;
+
 /// Files that are opened by name, such as those of the machine.
 pub trait NamedFiles {
     /// The bytes of the file with a name, if they are known.

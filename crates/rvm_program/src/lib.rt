@@ -25,7 +25,7 @@ use clap::Error;
 use commands::Told;
 pub use descriptors::{Descriptors, take_descriptors};
 use files::HostFiles;
-pub use files::{MAX_FILE_SIZE, NamedFiles};
+pub use files::{MAX_FILE_SIZE, MAX_JOURNAL_SIZE, NamedFiles};
 use rvm_arguments::Arguments;
 use rvm_command::refused::{Refused, tell};
 use rvm_command_line::parse_args;
@@ -53,7 +53,7 @@ const UNTOLD: u8 = 1;
 ///
 /// At most one byte more is read of a file than it may have. An image of plain bytes may have as many bytes as RAM;
 /// with more it is refused with `OutsideRam`. An ELF file, what `dis` lists, an assembly text and each other file of
-/// `host` may have `MAX_FILE_SIZE` bytes; with more they are refused with `TooLong`. `run` reads at most one byte for
+/// `host` may have `MAX_FILE_SIZE` bytes, and a journal `MAX_JOURNAL_SIZE`; with more they are refused with `TooLong`. `run` reads at most one byte for
 /// the console for each turn; it refuses with `TooLong` if these would be more than `MAX_FILE_SIZE` bytes.
 pub fn perform<
     M: PagedMemory + Drop + Send + 'static,
@@ -266,6 +266,13 @@ where
             rt, files, arguments, output, errors,
         )),
         Arguments::Tell(arguments) => Ok(commands::tell(rt, arguments, input, output, errors)),
+        Arguments::Replay(arguments) => Ok(commands::replay::<M, F, O, E>(
+            rt.alloc(),
+            files,
+            arguments,
+            output,
+            errors,
+        )),
     }
 }
 

@@ -1,7 +1,7 @@
 use Rattle.std.proofs.Common.{subst, sym}
 use Rattle.std.specs.Prelude.{IfOk, OnErr}
 use Rattle.rvm_program.specs.Ended.{HasEnded, ToTell, written}
-use Rattle.rvm_program.proofs.Ended.{host_untold, tell_untold}
+use Rattle.rvm_program.proofs.Ended.{host_untold, replay_untold, tell_untold}
 use Rattle.rvm_program.proofs.begin.Goals as goal
 
 pub returns-in-Run-clause-untold : goal.returns-in-Run-clause-untold
@@ -52,3 +52,10 @@ returns-in-Tell-clause-untold g c =
     subst (λ a. OnErr c.tell.result (ToTell (λ status errors.
     HasEnded (g.F.NamedFiles.bytes_of c.args.files.now) (g.F.NamedFiles.created_of c.args.files.now) a status
     (g.I.Read.remaining c.args.input.now) output errors))) (sym c.in-Tell.is) (tell_untold c.tell.result)
+
+pub returns-in-Replay-clause-untold : goal.returns-in-Replay-clause-untold
+returns-in-Replay-clause-untold g c =
+    let output = written (g.O.Write.contents c.args.output.now) (g.O.Write.contents c.replay.new.output) in
+    subst (λ a. OnErr c.replay.result (ToTell (λ status errors.
+    HasEnded (g.F.NamedFiles.bytes_of c.args.files.now) (g.F.NamedFiles.created_of c.args.files.now) a status
+    (g.I.Read.remaining c.args.input.now) output errors))) (sym c.in-Replay.is) (replay_untold _ _ output c.replay.result)
