@@ -35,6 +35,7 @@ fn replay<R: System + Print + Net + Threads + Wait + 'static>(
 where
     R::Stream: Send,
     R::Listener: Send + Sync,
+    R::File: Send,
 {
     let mut command = None;
     let mut typed = String::new(rt.alloc());
@@ -61,6 +62,7 @@ fn answer<R: System + Print + Net + Threads + Wait + 'static>(
 where
     R::Stream: Send,
     R::Listener: Send + Sync,
+    R::File: Send,
 {
     let Some(command) = command else {
         return Ok(());
@@ -142,6 +144,7 @@ fn perform_and_print<R: System + Print + Net + Threads + Wait + 'static>(
 where
     R::Stream: Send,
     R::Listener: Send + Sync,
+    R::File: Send,
 {
     let words: Vec<&str> = command.split_whitespace().collect(rt.alloc())?;
     let flat = perform_over::<FlatMemory, R>(rt, words.as_slice(), input);
@@ -192,6 +195,7 @@ fn perform_over<M: PagedMemory + Drop + Send + 'static, R: System + Net + Thread
 where
     R::Stream: Send,
     R::Listener: Send + Sync,
+    R::File: Send,
 {
     let (mut output, mut errors) = (Vec::new(rt.alloc()), Vec::new(rt.alloc()));
     let mut input = input;
