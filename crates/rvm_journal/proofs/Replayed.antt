@@ -28,6 +28,7 @@ use Rattle.rvm_journal.specs.declared.noted.Noted.{Noted}
 use Rattle.rvm_journal.specs.declared.noted.Noted.TheVariants.{Turns, Command as Commanded, Came}
 use Rattle.rvm_journal.specs.declared.replay.JournalFault.{JournalFault}
 use Rattle.rvm_journal.specs.declared.replay.JournalFault.TheVariants as fault
+use Rattle.rvm_journal.specs.Headers.{first_header, header_at, header_in_line}
 use Rattle.rvm_journal.specs.Noting.{bytes_noted, came_noted, command_in, events_of, frame_noted, noted_by, noted_of, run_if, run_of, turns_noted}
 use Rattle.rvm_journal.specs.Replaying.{HasHarts, HasMore, IsBadLine, IsJournalFault, IsLineDone, IsLineFault, IsReplayed, Records, events_in, noted_at}
 use Rattle.rvm_journal.specs.Told.{Told, at_header, digest_behind, mark, no_digest, text_in, told_by, told_from, told_in, told_of}
@@ -340,3 +341,12 @@ module _ (n h : ℕ) where
     ap (told_of n h) (so.lines_are ∙ ap (λ l. so.before ++ l) none ∙ append-nil so.before) ∙ so.told,
     so.recorded,
   )
+
+-- the header of a journal
+pub header_first : (bytes line : List ℕ) (ls : List (List ℕ)) → lines bytes ≡ line ∷ ls → header_at bytes ≡ header_in_line line
+unfolding header_at
+header_first bytes line ls e = ap first_header e
+
+pub no_header : (bytes : List ℕ) → lines bytes ≡ [] → header_at bytes ≡ None
+unfolding header_at
+no_header bytes e = ap first_header e
