@@ -7,6 +7,6 @@ mod arguments;
 
 pub use arguments::{
     Arguments, AsmArguments, DebugArguments, DisArguments, GuestArguments, HostArguments,
-    MoveArguments, ReplayArguments, Report, ReportArguments, RunArguments, ScriptArguments, StatusOf, TellArguments,
-    TraceArguments, WordRange,
+    MoveArguments, ReplayArguments, Report, ReportArguments, RunArguments, ScriptArguments,
+    StatusOf, TellArguments, TraceArguments, WordRange,
 };

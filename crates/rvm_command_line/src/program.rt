@@ -807,7 +807,9 @@ fn replay_command<'a>(alloc: Global) -> Result<Command<'a>, Error>
 {
     Ok(
         Command::new(alloc, "replay")
-            .about("Does again what the journal of a host tells, and writes what the guest sent there")
+            .about(
+                "Does again what the journal of a host tells, and writes what the guest sent there",
+            )
             .after_help(REPLAY_HELP)
             .arg(needed(alloc, "journal", "JOURNAL", "The file of the journal"))?
             .arg(option(

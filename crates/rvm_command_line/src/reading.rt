@@ -17,8 +17,8 @@ use clap::error::ErrorKind;
 use clap::{ArgMatches, Command, Error};
 use rvm_arguments::{
     Arguments, AsmArguments, DebugArguments, DisArguments, GuestArguments, HostArguments,
-    MoveArguments, ReplayArguments, Report, ReportArguments, RunArguments, ScriptArguments, StatusOf, TellArguments,
-    TraceArguments, WordRange,
+    MoveArguments, ReplayArguments, Report, ReportArguments, RunArguments, ScriptArguments,
+    StatusOf, TellArguments, TraceArguments, WordRange,
 };
 use rvm_mem::{MAX_PAGES, PAGE_SIZE};
 use rvm_text::number as spelled;

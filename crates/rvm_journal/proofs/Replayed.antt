@@ -27,6 +27,7 @@ use Rattle.rvm_journal.specs.declared.noted.Noted.{Noted}
 use Rattle.rvm_journal.specs.declared.noted.Noted.TheVariants.{Turns, Command as Commanded, Came}
 use Rattle.rvm_journal.specs.declared.replay.JournalFault.{JournalFault}
 use Rattle.rvm_journal.specs.declared.replay.JournalFault.TheVariants as fault
+use Rattle.rvm_journal.specs.Headers.{first_header, header_at, header_in_line}
 use Rattle.rvm_journal.specs.Noting.{bytes_noted, came_noted, command_in, events_of, frame_noted, noted_by, noted_of, run_if, run_of, turns_noted}
 use Rattle.rvm_journal.specs.Replaying.{HasHarts, HasMore, IsBadLine, IsJournalFault, IsLineDone, IsLineFault, IsReplayed, Records, events_in, noted_at}
 use Rattle.rvm_journal.specs.Told.{Told, at_header, digest_behind, header_told, mark, no_digest, text_in, told_by, told_in, told_of}
@@ -321,3 +322,12 @@ header_shown line digest shown is same =
     if_shown (bytes_eq (take 17 line) (mark (digest_behind no_digest line))) (text_in line) (at_header line)
     ∙ ap (λ d. cond (bytes_eq (take 17 line) (mark d)) (Some (record { digest = d; events = [] })) None) (sym is)
     ∙ ap (λ b. cond b (Some (record { digest = digest; events = [] })) None) (sym same)
+
+-- the header of a journal
+pub header_first : (bytes line : List ℕ) (ls : List (List ℕ)) → lines bytes ≡ line ∷ ls → header_at bytes ≡ header_in_line line
+unfolding header_at
+header_first bytes line ls e = ap first_header e
+
+pub no_header : (bytes : List ℕ) → lines bytes ≡ [] → header_at bytes ≡ None
+unfolding header_at
+no_header bytes e = ap first_header e

@@ -1,5 +1,5 @@
 -- The first line of a journal: its text, and what that text tells.
-use Rattle.std.specs.Prelude.{ℕ, ◌+◌, ◌-◌, ◌*◌, ◌^◌, ◌==◌, ◌&&◌, nat_le, nat_lt, Bool, true, false, if◌then◌else◌, List, [], ◌∷◌, ◌++◌, take, Option, Some, None, Result, Ok, Err, codes, option_map}
+use Rattle.std.specs.Prelude.{◌<◌, ◌≤◌, ℕ, ◌+◌, ◌-◌, ◌*◌, ◌^◌, ◌==◌, ◌&&◌, nat_le, nat_lt, Bool, true, false, if◌then◌else◌, List, [], ◌∷◌, ◌++◌, take, Option, Some, None, Result, Ok, Err, codes, option_map}
 use Rattle.std.specs.Fmt.{decimal}
 use Rattle.std.specs.Str.{bytes_eq}
 use Rattle.hex.specs.Hex.{decode_sized, encode_lower}
@@ -104,10 +104,18 @@ header_in ws =
 unfoldable pub header_of : List ℕ → Option Header
 header_of text = header_in (words text)
 
--- the header that the first line tells, if that line shows its own digest
+-- the number of hosts of a header is 2 to 8, and the number of its host is one of theirs
+abbrev pub IsRanged : Header → Type 0
+IsRanged h = (2 ≤ h.hosts) × (h.hosts ≤ 8) × (h.host < h.hosts)
+
+-- the header that a first line tells, if the line shows its own digest
+abbrev pub header_in_line : (line : List ℕ) → Option Header
+header_in_line l = if bytes_eq (take 17 l) (mark (digest_behind no_digest l)) then header_of (text_in l) else None
+
+-- the header that the first of some lines tells
 abbrev pub first_header : List (List ℕ) → Option Header
 first_header [] = None
-first_header (l ∷ ls) = if bytes_eq (take 17 l) (mark (digest_behind no_digest l)) then header_of (text_in l) else None
+first_header (l ∷ ls) = header_in_line l
 
 -- the header of a journal with these bytes
 unfoldable pub header_at : (bytes : List ℕ) → Option Header

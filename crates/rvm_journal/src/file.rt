@@ -47,8 +47,8 @@ impl<W: Write + Drop> Model for JournalFile<W> {
     ghost Value = { Keeping };
 
     ghost view = { λ o. record {
-        told = told_at (is_empty (W.contents o.began.value)) o.hosts o.host (W.contents o.writer);
-        run = o.run;
+      told = told_at (is_empty (W.contents o.began.value)) o.hosts o.host (W.contents o.writer);
+      run = o.run;
     } };
 
     ghost invariant = { λ o. IsFile (is_empty (W.contents o.began.value)) o.hosts o.host o.digest.bytes
@@ -104,7 +104,12 @@ impl<W: Write + Drop> JournalFile<W> {
     /// Keeps turns of this many harts, from turn `turn` on, for a line that they share with the turns before and after
     /// them. They wait for it until something else happens, or until there are more than `LONGEST`.
     #[tactic(auto, using(crate::proofs::Runs::no_turns))]
-    pub(crate) fn turns(self, turn: u64, harts: u32, count: u32) -> Result<JournalFile<W>, LinkFault>
+    pub(crate) fn turns(
+        self,
+        turn: u64,
+        harts: u32,
+        count: u32,
+    ) -> Result<JournalFile<W>, LinkFault>
         ensures { IfOk result (λ file. kept_of file ≡ with_more (kept_of self) (steps_from turn harts count)) }
     {
         if count == 0 {
@@ -192,13 +197,7 @@ impl<W: Write + Drop> JournalFile<W> {
 }
 
 /// Reads a text back, and fails unless it tells `noted`, so that no line is written that a reader would not take.
-fn check(
-    alloc: Global,
-    hosts: u8,
-    host: u8,
-    text: &[u8],
-    noted: &Noted,
-) -> Result<(), LinkFault>
+fn check(alloc: Global, hosts: u8, host: u8, text: &[u8], noted: &Noted) -> Result<(), LinkFault>
     ensures { OnOk result (noted_of hosts host text.now ≡ Some noted.now) }
 {
     match Noted::read(alloc, hosts, host, text) {

@@ -1,10 +1,10 @@
 //! The first line of a journal.
 
-ghost use Rattle.std.specs.Prelude.{◌≡◌, ◌<◌, ◌≤◌, IfOk, IfSome, MatchOption, None, OnOk, Some};
+ghost use Rattle.std.specs.Prelude.{◌≡◌, ◌≤◌, IfOk, IfSome, MatchOption, None, OnOk, Some};
 ghost use Rattle.std.specs.Io.KnownBytes.{Appends};
 ghost use Rattle.hex.specs.Hex.{decode_sized};
 ghost use Rattle.sha2.specs.Sha256.{sha256};
-ghost use Rattle.rvm_journal.specs.Headers.{digest_if, field, form_of, guest_in, guest_text, header_of, image_in, long_in, no_guest_in, ranged, text_of};
+ghost use Rattle.rvm_journal.specs.Headers.{IsRanged, digest_if, field, form_of, guest_in, guest_text, header_of, image_in, long_in, no_guest_in, ranged, text_of};
 
 use hex::decode_to_slice;
 use rvm_debug::Words;
@@ -61,7 +61,7 @@ impl Header {
     #[tactic(auto, unfolding(crate::specs::Headers::header_of))]
     pub fn read(text: &[u8]) -> Option<Header>
         ensures header { result ≡ header_of text.now }
-        ensures range { IfSome result (λ header. (2 ≤ header.hosts) × (header.hosts ≤ 8) × (header.host < header.hosts)) }
+        ensures range { IfSome result IsRanged }
     {
         let mut words = Words::new(text);
         let _version = field(&mut words, b"journal", 1, 1)?;

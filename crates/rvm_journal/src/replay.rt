@@ -5,7 +5,7 @@ ghost use Rattle.std.specs.Str.{bytes_eq};
 ghost use Rattle.rvm_cell.specs.Logs.{steps_from};
 ghost use Rattle.rvm_debug.specs.Words.{lines};
 ghost use Rattle.rvm_message.specs.declared.event.HostEvent.TheVariants.{Came};
-ghost use Rattle.rvm_journal.specs.Headers.{header_at};
+ghost use Rattle.rvm_journal.specs.Headers.{IsRanged, header_at, header_in_line};
 ghost use Rattle.rvm_journal.specs.Noting.{events_of};
 ghost use Rattle.rvm_journal.specs.Replaying.{HasHarts, HasMore, IsFull, IsJournalFault, IsLineDone, IsLineFault, IsReplayed, Records, noted_at};
 ghost use Rattle.rvm_journal.specs.Told.{header_told, mark, text_in};
@@ -86,20 +86,28 @@ fn begin(line: &[u8]) -> Option<LineDigest>
 
 /// Reads the header of a journal with these bytes: that of the text of the first line. None if there is no line, if the
 /// first line does not show its digest, or if its text tells no header.
-#[tactic(auto, unfolding(crate::specs::Headers::header_at))]
 pub fn read_header(bytes: &[u8]) -> Option<Header>
     ensures header { result ≡ header_at bytes.now }
-    ensures range { IfSome result (λ header. (2 ≤ header.hosts) × (header.hosts ≤ 8) × (header.host < header.hosts)) }
+    ensures range { IfSome result IsRanged }
 {
     if bytes.is_empty() {
         return None;
     }
     let (line, _rest) = split_line(bytes);
-    let digest = LineDigest::none().after(text_in(line));
-    if !shows(line, &digest) {
-        return None;
+    header_in_line(line)
+}
+
+/// The header that a first line tells. None if the line does not show its digest, or if its text tells no header.
+fn header_in_line(line: &[u8]) -> Option<Header>
+    ensures header { result ≡ header_in_line line.now }
+    ensures range { IfSome result IsRanged }
+{
+    let text = text_in(line);
+    if shows(line, &LineDigest::none().after(text)) {
+        Header::read(text)
+    } else {
+        None
     }
-    Header::read(text_in(line))
 }
 
 /// Has a recorded host do what a line tells, which has this number and comes after one with digest `before`. Returns the

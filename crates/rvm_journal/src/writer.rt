@@ -6,8 +6,8 @@ ghost use Rattle.rvm_cell.specs.Logs.{IsEmpty, KeepsOn, steps_from};
 ghost use Rattle.rvm_journal.specs.Written.{kept_of};
 ghost use Rattle.rvm_message.specs.declared.event.HostEvent.TheVariants.{Came, Do};
 
-use crate::header::{Header, header_text};
 use crate::file::JournalFile;
+use crate::header::{Header, header_text};
 use rvm_cell::EventLog;
 use rvm_frame::Frame;
 use rvm_message::Command;
@@ -44,7 +44,6 @@ impl<W: Write + Drop> JournalWriter<W> {
         let file = JournalFile::begin(alloc, writer, header.hosts, header.host, &text)?;
         Ok(JournalWriter { file: Some(file) })
     }
-
 }
 
 impl<W: Write + Drop> EventLog for JournalWriter<W> {
@@ -76,7 +75,10 @@ impl<W: Write + Drop> EventLog for JournalWriter<W> {
 
 /// A journal with the line of a command, unless it has ended, or ends since the line cannot be written.
 #[tactic(auto, using(crate::proofs::Keeping::keeps_on, crate::proofs::Keeping::lost))]
-fn commanded<W: Write + Drop>(file: Option<JournalFile<W>>, command: &Command) -> Option<JournalFile<W>>
+fn commanded<W: Write + Drop>(
+    file: Option<JournalFile<W>>,
+    command: &Command,
+) -> Option<JournalFile<W>>
     ensures { KeepsOn (option_and_then kept_of file) (option_and_then kept_of result) (Do command.now ∷ []) }
 {
     file?.command(command).ok()
@@ -84,7 +86,11 @@ fn commanded<W: Write + Drop>(file: Option<JournalFile<W>>, command: &Command) -
 
 /// A journal with the line of a frame that came, unless it has ended, or ends since the line cannot be written.
 #[tactic(auto, using(crate::proofs::Keeping::keeps_on, crate::proofs::Keeping::lost))]
-fn heard<W: Write + Drop>(file: Option<JournalFile<W>>, from: u8, frame: &Frame) -> Option<JournalFile<W>>
+fn heard<W: Write + Drop>(
+    file: Option<JournalFile<W>>,
+    from: u8,
+    frame: &Frame,
+) -> Option<JournalFile<W>>
     ensures { KeepsOn (option_and_then kept_of file) (option_and_then kept_of result) (Came from frame.now ∷ []) }
 {
     file?.came(from, frame).ok()

@@ -415,12 +415,12 @@ pub replay_ended : {F : Type 0} (files : Named) (a : ReplayArguments) (journal i
 replay_ended files a journal image output (Err fault) journal_is image_is status shown = tt
 replay_ended files a journal image output (Ok s) journal_is image_is status shown = elim status [
   | inl none ↦ subst (λ n. ReplayEnded files a n output) (sym none) (record {
-      journal = journal;
-      image = image;
-      journal_is = journal_is;
-      image_is = image_is;
-      shown = shown none;
-    })
+    journal = journal;
+    image = image;
+    journal_is = journal_is;
+    image_is = image_is;
+    shown = shown none;
+  })
   | inr one ↦ subst (λ n. ReplayEnded files a n output) (sym one) tt
 ]
 

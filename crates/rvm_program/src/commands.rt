@@ -14,7 +14,10 @@ ghost use Rattle.rvm_command.specs.Ends.{RunHasStatus};
 ghost use Rattle.rvm_program.specs.Ended.{AsmEnded, AuditEnded, DebugEnded, DisEnded, HasRunTo, HostEnded, IsFileOrNone, IsNamedFile, MoveEnded, ReplayEnded, RunEnded, ScriptEnded, TellEnded, ToTell, report_name, trace_name, written};
 ghost use Rattle.rvm_program.specs.Files.{IsFile, IsFileRefusal, IsFirst, IsFirstInput, IsImage, IsLong, IsLongInput, IsUnread, max_size};
 
-use crate::files::{MAX_FILE_SIZE, MAX_JOURNAL_SIZE, NamedFiles, keep_apart, read_beginning, read_file, read_whole, refusal_of};
+use crate::files::{
+    MAX_FILE_SIZE, MAX_JOURNAL_SIZE, NamedFiles, keep_apart, read_beginning, read_file, read_whole,
+    refusal_of,
+};
 use crate::images::{begin_image, check_image, read_image};
 use crate::system::System;
 use either::Either;

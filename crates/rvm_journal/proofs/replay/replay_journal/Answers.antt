@@ -15,7 +15,7 @@ loop-rest-init g c =
     let shorter = c.split_line.ensures.shorter in (
       omega (arith, shorter),
       header_done c.args.hosts c.args.host (lines c.args.bytes.now) (lines c.split_line.result.1.now)
-      c.split_line.result.0.now c.in-Some.first.bytes c.args.recorded.now c.split_line.ensures.lines c.in-Some.ensures,
+          c.split_line.result.0.now c.in-Some.first.bytes c.args.recorded.now c.split_line.ensures.lines c.in-Some.ensures,
     )
 
 pub loop-rest-preserved : goal.loop-rest-preserved
