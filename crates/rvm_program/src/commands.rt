@@ -148,7 +148,7 @@ fn create_named<F: NamedFiles>(
     files: &F,
     name: Option<&str>,
 ) -> Result<Either<BufWriter<F::Created>, Sink>, Refusal>
-    ensures named { IfOk result (λ w. IsNamedFile (F.created_of files.now) name
+    ensures named { IfOk result (λ w. IsNamedFile (F.created_of files.now) name.entry
         (either (writer_contents F.Created.contents) (λ s. None) w)) }
     ensures refused { IfErr result IsFileRefusal }
 {
