@@ -23,7 +23,7 @@ use crate::system::System;
 use either::Either;
 use rvm_arguments::{
     AsmArguments, DebugArguments, DisArguments, GuestArguments, HostArguments, MoveArguments,
-    ReportArguments, RunArguments, ScriptArguments, TellArguments, TraceArguments,
+    ReplayArguments, ReportArguments, RunArguments, ScriptArguments, TellArguments, TraceArguments,
 };
 use rvm_cell::{InputQueue, read_input as read_console_input};
 use rvm_command::asm_command::asm_command;
