@@ -1,5 +1,6 @@
 -- Lines of a journal are done one after the other, by a recorded host.
 use Rattle.std.proofs.Common.{◌≡◌, ◌∙◌, ℕ, zero, suc, ◌+◌, ◌-◌, ◌%◌, ◌<◌, ◌≤◌, min, Bool, true, false, cond, ◌&&◌, List, [], ◌∷◌, ◌++◌, length, map, take, drop, Option, Some, None, Result, Ok, Err, option_map, refl, sym, ap, subst, append_assoc, arith, length-append, inl, inr, ◌==◌}
+use native.Mathlib.Nat.{mod-add-mod}
 use Rattle.std.specs.Option.{option_and_then}
 use Rattle.std.specs.Prelude.{codes, nat_le, nat_lt, slice_get}
 use Rattle.std.specs.Str.{bytes_eq}
@@ -32,7 +33,7 @@ use Rattle.rvm_journal.specs.Noting.{bytes_noted, came_noted, command_in, events
 use Rattle.rvm_journal.specs.Replaying.{HasHarts, HasMore, IsBadLine, IsJournalFault, IsLineDone, IsLineFault, IsReplayed, Records, events_in, noted_at}
 use Rattle.rvm_journal.specs.Told.{Told, at_header, digest_behind, header_told, mark, no_digest, text_in, told_by, told_in, told_of}
 use Rattle.rvm_journal.proofs.Adding.{behind_header, one_told}
-use Rattle.rvm_journal.proofs.Runs.{joined, of_turn, twice}
+use Rattle.rvm_journal.proofs.Runs.{joined, of_turn}
 
 -- at most n elements
 pub take_short : (n : ℕ) (xs : List ℕ) → take (min (length xs) n) xs ≡ take n xs
