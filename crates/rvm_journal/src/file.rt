@@ -201,8 +201,19 @@ fn check(alloc: Global, hosts: u8, host: u8, text: &[u8], noted: &Noted) -> Resu
     ensures { OnOk result (noted_of hosts host text.now ≡ Some noted.now) }
 {
     match Noted::read(alloc, hosts, host, text) {
-        Ok(Some(read)) if read == *noted => Ok(()),
+        Ok(Some(read)) => agree(&read, noted),
         _ => Err(LinkFault),
+    }
+}
+
+/// Fails unless what was read is what was to be written.
+fn agree(read: &Noted, noted: &Noted) -> Result<(), LinkFault>
+    ensures { OnOk result (read.now ≡ noted.now) }
+{
+    if read == noted {
+        Ok(())
+    } else {
+        Err(LinkFault)
     }
 }
 
