@@ -30,7 +30,7 @@ use Rattle.rvm_journal.specs.declared.replay.JournalFault.{JournalFault}
 use Rattle.rvm_journal.specs.declared.replay.JournalFault.TheVariants as fault
 use Rattle.rvm_journal.specs.Headers.{first_header, header_at, header_in_line}
 use Rattle.rvm_journal.specs.Noting.{bytes_noted, came_noted, command_in, events_of, frame_noted, noted_by, noted_of, run_if, run_of, turns_noted}
-use Rattle.rvm_journal.specs.Replaying.{HasHarts, HasMore, IsBadLine, IsJournalFault, IsLineDone, IsLineFault, IsReplayed, Records, events_in, noted_at}
+use Rattle.rvm_journal.specs.Replaying.{HasHarts, HasMore, IsBadLine, IsJournalFault, IsLineDone, IsLineFault, IsReplayed, LacksHeader, Records, events_in, noted_at}
 use Rattle.rvm_journal.specs.Told.{Told, at_header, digest_behind, header_told, mark, no_digest, text_in, told_by, told_in, told_of}
 use Rattle.rvm_journal.proofs.Adding.{behind_header, one_told}
 use Rattle.rvm_journal.proofs.Runs.{joined, of_turn}
@@ -332,3 +332,11 @@ header_first bytes line ls e = ap first_header e
 pub no_header : (bytes : List ℕ) → lines bytes ≡ [] → header_at bytes ≡ None
 unfolding header_at
 no_header bytes e = ap first_header e
+
+-- no first line
+pub lacks_all : (ls : List (List ℕ)) → ls ≡ [] → LacksHeader ls
+lacks_all ls none = subst LacksHeader (sym none) tt
+
+-- a first line that does not show its digest
+pub lacks_first : (ls rest : List (List ℕ)) (line : List ℕ) → ls ≡ line ∷ rest → header_told line ≡ None → LacksHeader ls
+lacks_first ls rest line is none = subst LacksHeader (sym is) none

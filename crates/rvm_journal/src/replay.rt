@@ -56,10 +56,10 @@ pub fn replay_journal<M: PagedMemory + Drop>(
         return Err(JournalFault::BadLine(1));
     }
     let (header, mut rest) = split_line(bytes);
-    let Some(first) = begin(header) else {
-        return Err(JournalFault::BadLine(1));
+    let mut digest = match begin(header) {
+        Some(digest) => digest,
+        None => return Err(JournalFault::BadLine(1)),
     };
-    let mut digest = first;
     let mut number = 1;
     while !rest.is_empty() {
         let (line, behind) = split_line(rest);

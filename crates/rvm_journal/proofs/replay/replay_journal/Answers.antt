@@ -1,21 +1,33 @@
-use Rattle.std.proofs.Common.{◌+◌, ◌++◌, ◌∙◌, refl, arith, inl}
+use Rattle.std.proofs.Common.{rules, ◌+◌, ◌++◌, ◌∙◌, refl, arith, inl}
 use Rattle.std.specs.Prelude.{codes}
 use Rattle.rvm_debug.proofs.Reading.{lines_of_none}
 use Rattle.rvm_debug.specs.Words.{lines}
 use Rattle.rvm_journal.specs.Told.{digest_after}
-use Rattle.rvm_journal.proofs.Replayed.{header_done, line_done, lines_done}
+use Rattle.rvm_journal.proofs.Replayed.{header_done, lacks_all, lacks_first, line_done, lines_done}
 use Rattle.rvm_journal.proofs.replay.replay_journal.Goals as goal
 
 pub returns-then-is_empty-clause-fault : goal.returns-then-is_empty-clause-fault
 returns-then-is_empty-clause-fault g c =
-    inl (refl, lines_of_none c.args.bytes.now c.is_empty.result c.is_empty.ensures c.if-is_empty.true)
+    inl (
+      refl,
+      lacks_all (lines c.args.bytes.now)
+          (lines_of_none c.args.bytes.now c.is_empty.result c.is_empty.ensures c.if-is_empty.true),
+    )
+
+pub returns-in-None-clause-fault : goal.returns-in-None-clause-fault
+returns-in-None-clause-fault g c =
+    inl (
+      refl,
+      lacks_first (lines c.args.bytes.now) (lines c.split_line.result.1.now) c.split_line.result.0.now
+          c.split_line.ensures.lines (search rules),
+    )
 
 pub loop-rest-init : goal.loop-rest-init
 loop-rest-init g c =
     let shorter = c.split_line.ensures.shorter in (
       omega (arith, shorter),
       header_done c.args.hosts c.args.host (lines c.args.bytes.now) (lines c.split_line.result.1.now)
-          c.split_line.result.0.now c.in-Some.first.bytes c.args.recorded.now c.split_line.ensures.lines c.in-Some.ensures,
+          c.split_line.result.0.now c.in-Some.digest.bytes c.args.recorded.now c.split_line.ensures.lines c.in-Some.ensures,
     )
 
 pub loop-rest-preserved : goal.loop-rest-preserved
