@@ -22,7 +22,7 @@ use Rattle.rvm_host_command.specs.declared.journal_audit.AuditText.{AuditText}
 use Rattle.rvm_host_command.specs.declared.journal_audit.AuditText.TheVariants.{Order, Summary}
 use Rattle.rvm_host_command.specs.declared.journal_file.JournalFile.{JournalFile}
 use Rattle.rvm_host_command.specs.declared.journal_file.Wanted.{Wanted}
-use Rattle.rvm_host_command.specs.declared.journal_file.Wanted.TheVariants.{Guest, Host}
+use Rattle.rvm_host_command.specs.declared.journal_file.Wanted.TheVariants.{OfHost, WithGuest}
 
 -- the header of the journal with this index, if there is such a journal, and it has one
 abbrev pub header_number : List JournalFile → (index : ℕ) → Option Header
@@ -31,8 +31,8 @@ header_number files i = option_and_then (λ f. header_at f.bytes.now) (slice_get
 -- whether a header is wanted: one with a guest, or that of a host
 abbrev pub is_wanted : Wanted → Option Header → Bool
 is_wanted w None = false
-is_wanted Guest (Some h) = is_some h.guest
-is_wanted (Host x) (Some h) = h.host == x
+is_wanted WithGuest (Some h) = is_some h.guest
+is_wanted (OfHost x) (Some h) = h.host == x
 
 -- the one index below n that has a property, or none if no index below n has it
 abbrev pub IsOnly : (has : ℕ → Bool) → (n : ℕ) → Option ℕ → Type 0
@@ -81,9 +81,9 @@ HasDone files image n x (Some i) r =
 pub record AreReplayed (files : List JournalFile) (image : List ℕ) (all : List Recording) : Type 0 where
   pub headers : AreOfHosts files (length files) (length all)
   pub guest : ℕ
-  pub one_guest : IsOnlyOne files Guest (Some guest)
+  pub one_guest : IsOnlyOne files WithGuest (Some guest)
   pub each : (x : ℕ) (r : Recording) → slice_get all x ≡ Some r
-      → (found : Option ℕ) × IsOnlyOne files (Host x) found × HasDone files image (length all) x found r
+      → (found : Option ℕ) × IsOnlyOne files (OfHost x) found × HasDone files image (length all) x found r
 
 -- the journals of these hosts
 abbrev pub journals_in : List Recording → Journals

@@ -55,9 +55,9 @@ pub enum JournalsFault {
 #[derive(Clone, Copy, Debug, PartialEq, Eq)]
 pub(crate) enum Wanted {
     /// The one that begins with a guest.
-    Guest,
+    WithGuest,
     /// The one of this host.
-    Host(u8),
+    OfHost(u8),
 }
 
 /// Reads the header of one of the journals.
@@ -127,15 +127,15 @@ fn is_wanted(wanted: Wanted, header: &Header) -> bool
     ensures { result ≡ is_wanted wanted (Some header.now) }
 {
     match wanted {
-        Wanted::Guest => header.guest.is_some(),
-        Wanted::Host(host) => header.host == host,
+        Wanted::WithGuest => header.guest.is_some(),
+        Wanted::OfHost(host) => header.host == host,
     }
 }
 
 /// What is wrong with a second journal that is wanted.
 fn second_of(wanted: Wanted) -> FileFault {
     match wanted {
-        Wanted::Guest => FileFault::SecondGuest,
-        Wanted::Host(host) => FileFault::Again(host),
+        Wanted::WithGuest => FileFault::SecondGuest,
+        Wanted::OfHost(host) => FileFault::Again(host),
     }
 }

@@ -3,7 +3,7 @@
 ghost use Rattle.std.specs.Prelude.{◌≡◌, ◌≤◌, ℕ, [], IfOk, None, Option, Some, length, slice_get, true};
 ghost use Rattle.rvm_host.specs.Hosts.{new_host};
 ghost use Rattle.rvm_host_command.specs.declared.journal_file.JournalFile.{JournalFile};
-ghost use Rattle.rvm_host_command.specs.declared.journal_file.Wanted.TheVariants.{Host};
+ghost use Rattle.rvm_host_command.specs.declared.journal_file.Wanted.TheVariants.{OfHost};
 ghost use Rattle.rvm_host_command.specs.Journals.{AreReplayed, HasDone, IsGuestNamed, IsHostOf, IsOnlyOne, header_number};
 ghost use Rattle.rvm_journal.specs.declared.header.Header.{Header};
 
@@ -36,7 +36,7 @@ pub(crate) fn replay_all<M: PagedMemory + Drop>(
     ensures few { IfOk result (λ all. length all.items ≤ 8) }
 {
     let hosts = hosts_of(files)?;
-    let Some(_guest) = index_of(files, Wanted::Guest)? else {
+    let Some(_guest) = index_of(files, Wanted::WithGuest)? else {
         return Err(JournalsFault::NoGuest);
     };
     let mut all = Vec::new(alloc);
@@ -57,10 +57,10 @@ fn replay_host<M: PagedMemory + Drop>(
     hosts: u8,
     host: u8,
 ) -> Result<Recorded<M>, JournalsFault>
-    ensures { IfOk result (λ r. (found : Option ℕ) × IsOnlyOne files.now (Host host) found
+    ensures { IfOk result (λ r. (found : Option ℕ) × IsOnlyOne files.now (OfHost host) found
         × HasDone files.now image.now hosts host found r) }
 {
-    match index_of(files, Wanted::Host(host))? {
+    match index_of(files, Wanted::OfHost(host))? {
         Some(index) => replay_file(alloc, files, index, image),
         None => open_host(alloc, None, hosts, host),
     }
