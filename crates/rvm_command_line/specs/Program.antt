@@ -98,15 +98,15 @@ with_report command = with_rule command signature
 abbrev pub with_watch : App → App
 with_watch command = with_trace (with_rule command (flag (codes "stop-at-fault")))
 
+-- a command that takes the words of a guest, its turns and its input
+abbrev pub with_turns : App → App
+with_turns command =
+    with_rule (with_rule (with_guest command) (number (codes "steps") (codes "1000000") 1000000000))
+    (option (codes "input"))
+
 -- the command that runs a guest
 abbrev pub run : App
-run =
-    with_report
-    (with_watch
-    (with_status
-    (with_rule
-    (with_rule (with_guest (new_app (codes "run"))) (number (codes "steps") (codes "1000000") 1000000000))
-    (option (codes "input")))))
+run = with_report (with_watch (with_status (with_turns (new_app (codes "run")))))
 
 -- the command that makes an ELF file of an assembly text
 abbrev pub asm : App

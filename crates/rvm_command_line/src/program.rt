@@ -7,7 +7,7 @@ ghost use Rattle.clap.specs.Walk.{rule_of};
 ghost use Rattle.clap.specs.Words.{kind_of};
 ghost use Rattle.clap.specs.declared.builder.command.Command.TheViews.{out-Command as fields_of};
 ghost use Rattle.clap.specs.declared.error.kind.ErrorKind.TheVariants as kind;
-ghost use Rattle.rvm_command_line.specs.Program.{allowed, asm, audit, bounded, debug, dis, flag, host, move, needed, needed_option, number, option, program, replay, run, script, signature, tell, top, with_addresses, with_board, with_default, with_guest, with_hosting, with_journal, with_move, with_name, with_policy, with_report, with_status, with_trace, with_verdict, with_watch, with_world};
+ghost use Rattle.rvm_command_line.specs.Program.{allowed, asm, audit, bounded, debug, dis, flag, host, move, needed, needed_option, number, option, program, replay, run, script, signature, tell, top, with_addresses, with_board, with_default, with_guest, with_hosting, with_journal, with_move, with_name, with_policy, with_report, with_status, with_trace, with_turns, with_verdict, with_watch, with_world};
 
 use clap::builder::ValueParser;
 use clap::{Arg, ArgAction, Command, Error};
@@ -458,18 +458,28 @@ fn run_command<'a>(alloc: Global) -> Result<Command<'a>, Error>
     let run = Command::new(alloc, "run")
         .about("Runs a guest, and writes what it sends")
         .after_help(RUN_HELP);
-    let run = guest_command(run, alloc)?
-        .arg(number(
-            alloc,
-            "steps",
-            "N",
-            "1000000",
-            1_000_000_000,
-            "How many turns at most, 1 to 1000000000",
-        ))?
-        .arg(input_option(alloc))?;
-    let run = watch_command(status_command(run, alloc)?, alloc)?;
-    report_command(run, alloc)
+    let run = status_command(turns_command(run, alloc)?, alloc)?;
+    report_command(watch_command(run, alloc)?, alloc)
+}
+
+/// Adds to a command the words for a guest, its turns and its input.
+fn turns_command<'a>(command: Command<'a>, alloc: Global) -> Result<Command<'a>, Error>
+    ensures app { IfOk result (λ c. app_of c ≡ with_turns (app_of command.entry)) }
+    ensures local { (fields_of command.entry).has_globals ≡ false
+        → IfOk result (λ c. (fields_of c).has_globals ≡ false) }
+    ensures memory { IfErr result (λ e. kind_of e ≡ kind.OutOfMemory) }
+{
+    let command = guest_command(command, alloc)?;
+    Ok(command.arg(steps_option(alloc))?.arg(input_option(alloc))?)
+}
+
+/// The option `--steps` of `run`: the most turns.
+fn steps_option<'a>(alloc: Global) -> Arg<'a>
+    ensures rule { rule_of result ≡ number (codes "steps") (codes "1000000") 1000000000 }
+    ensures local { result.global ≡ false }
+{
+    let help = "How many turns at most, 1 to 1000000000";
+    number(alloc, "steps", "N", "1000000", 1_000_000_000, help)
 }
 
 /// Adds to a command the words of a report.
