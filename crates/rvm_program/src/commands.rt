@@ -599,7 +599,7 @@ fn read_named<'a, F: NamedFiles>(
     files: &F,
     name: Option<&'a str>,
 ) -> Result<Vec<u8>, (&'a str, Refusal)>
-    ensures { IfOk result (λ bytes. IsFileOrNone (F.bytes_of files.now) name bytes.items) }
+    ensures { IfOk result (λ bytes. IsFileOrNone (F.bytes_of files.now) name.entry bytes.items) }
 {
     match name {
         Some(name) => read_told(files, alloc, name),
