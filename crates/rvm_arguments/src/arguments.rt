@@ -4,6 +4,17 @@ ghost use Rattle.std.specs.Prelude.{◌≡◌, ◌≤◌, false};
 ghost use Rattle.std.specs.Option.{ForSome};
 ghost use Rattle.std.specs.Str.{bytes_eq};
 
+use arrayvec::ArrayVec;
+
+/// What a command line asks for.
+#[derive(Debug, Drop)]
+pub struct CommandLine<'a> {
+    /// The command, with its arguments.
+    pub arguments: Arguments<'a>,
+    /// Whether the report of a refusal is followed by lines that say where its cause lies, what it is, and what to do.
+    pub explain: bool,
+}
+
 /// The command that a command line asks for, with its arguments.
 #[derive(Debug, Drop)]
 pub enum Arguments<'a> {
@@ -17,6 +28,7 @@ pub enum Arguments<'a> {
     Host(HostArguments<'a>),
     Tell(TellArguments<'a>),
     Replay(ReplayArguments<'a>),
+    AuditJournals(AuditJournalsArguments<'a>),
 }
 
 /// A guest: the file of its image, and its board. Each number is within its limits.
@@ -91,6 +103,8 @@ pub struct ReportArguments<'a> {
 pub enum Report {
     /// The words of RAM in a range: a line of eight hexadecimal digits for each.
     Signature(WordRange),
+    /// How often each word of the image ran: the lines that `rvmove dis` lists, each after a number.
+    Coverage,
 }
 
 /// The words of a range of addresses.
@@ -213,4 +227,15 @@ pub struct ReplayArguments<'a> {
     pub journal: &'a str,
     /// The file of the image of the guest with which the host began, if it began with one.
     pub image: Option<&'a str>,
+}
+
+/// The arguments of `rvmove audit-journals`.
+#[derive(Debug, Drop)]
+pub struct AuditJournalsArguments<'a> {
+    /// The files of the journals of a world's hosts, 1 to 8.
+    pub journals: ArrayVec<&'a str, 8>,
+    /// The file of the image of the guest that moves between the hosts.
+    pub image: &'a str,
+    /// Whether the order is written, a line for each event, in place of a summary.
+    pub order: bool,
 }

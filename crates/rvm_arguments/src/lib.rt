@@ -6,7 +6,7 @@
 mod arguments;
 
 pub use arguments::{
-    Arguments, AsmArguments, DebugArguments, DisArguments, GuestArguments, HostArguments,
-    MoveArguments, ReplayArguments, Report, ReportArguments, RunArguments, ScriptArguments,
-    StatusOf, TellArguments, TraceArguments, WordRange,
+    Arguments, AsmArguments, AuditJournalsArguments, CommandLine, DebugArguments, DisArguments,
+    GuestArguments, HostArguments, MoveArguments, ReplayArguments, Report, ReportArguments,
+    RunArguments, ScriptArguments, StatusOf, TellArguments, TraceArguments, WordRange,
 };
