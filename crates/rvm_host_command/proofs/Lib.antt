@@ -4,3 +4,6 @@ mod Examples
 pub mod Told
 pub mod Hosted
 mod Showing
+pub mod Walks
+pub mod Law
+mod WorkedProcesses

@@ -3,3 +3,4 @@ pub mod Told
 pub mod Answered
 pub mod Journals
 pub mod Consoles
+pub mod Processes

@@ -7,7 +7,7 @@ ghost use Rattle.rvm_guest.specs.TheGuest.{board};
 ghost use Rattle.rvm_guest.specs.Valid.{is_valid};
 ghost use Rattle.rvm_audit.specs.Hosts.{Openings};
 ghost use Rattle.rvm_audit.specs.Worlds.{AreNew};
-ghost use Rattle.rvm_processes.specs.Processes.{AreOneWorld, AreProcesses, ProcessEvent};
+ghost use Rattle.rvm_host_command.specs.Processes.{AreOneWorld, AreProcesses, ProcessEvent};
 ghost use Rattle.rvm_protocol.specs.World.{new_world};
 
 /// Host processes are hosts of one world. Suppose that events led each host of a new world, in a process of its own, to

@@ -14,8 +14,8 @@ use Rattle.rvm_protocol.proofs.Course.{course_law, past_law}
 use Rattle.rvm_protocol.specs.Course.{RunsNeverMove, RunsTellTheirPast}
 use Rattle.rvm_protocol.specs.World.{new_world}
 use Rattle.rvm_core.specs.Worlds.{BoardWorld}
-use Rattle.rvm_processes.specs.Processes.{AreOneWorld, AreProcesses, ProcessEvent, events_at}
-use Rattle.rvm_processes.proofs.Walks.{are_events, host_after, next_in, world_after}
+use Rattle.rvm_host_command.specs.Processes.{AreOneWorld, AreProcesses, ProcessEvent, events_at}
+use Rattle.rvm_host_command.proofs.Walks.{are_events, host_after, next_in, world_after}
 
 module _ (version origin : ℕ) (g : GuestState) (limits : ℕ → ℕ) (o : Openings)
     (are : AreNew version origin g limits o) where

@@ -12,8 +12,8 @@ use Rattle.rvm_protocol.specs.Commands.{AbortMove, Begin, Came, Do, Policy}
 use Rattle.rvm_protocol.specs.Frames.{Abort, Go}
 use Rattle.rvm_protocol.specs.World.{Has, new_world}
 use Rattle.rvm_core.specs.Worlds.{BoardWorld}
-use Rattle.rvm_processes.specs.Processes.{AllMayHappen, AreOneWorld, AreProcesses, MayHappen, ProcessEvent, events_at}
-use Rattle.rvm_processes.proofs.Law.{one_world}
+use Rattle.rvm_host_command.specs.Processes.{AllMayHappen, AreOneWorld, AreProcesses, MayHappen, ProcessEvent, events_at}
+use Rattle.rvm_host_command.proofs.Law.{one_world}
 
 module _ (g : GuestState) where
   -- the guest is at host 0

@@ -12,7 +12,7 @@ use Rattle.rvm_protocol.specs.Commands.{Came, Do}
 use Rattle.rvm_protocol.specs.Host.{Host, host_step}
 use Rattle.rvm_protocol.specs.World.{At, Deliver, Event, Has, entry_of, frame_for, happened, history, meaning, result_at, run, world_at}
 use Rattle.rvm_core.specs.Worlds.{BoardWorld}
-use Rattle.rvm_processes.specs.Processes.{AllMayHappen, CameSent, ProcessEvent, events_at, what_happened}
+use Rattle.rvm_host_command.specs.Processes.{AllMayHappen, CameSent, ProcessEvent, events_at, what_happened}
 
 -- WHICH EVENTS
 

@@ -1,3 +1,0 @@
-pub mod Walks
-pub mod Law
-mod Examples
