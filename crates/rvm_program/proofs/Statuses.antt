@@ -3,7 +3,7 @@ use Rattle.std.proofs.Common.{◌≡◌, ◌⊎◌, ◌<◌, Bool, true, false, 
 use Rattle.std.specs.Result.{IfErr, IfOk}
 use Rattle.std.specs.Prelude.{OnErr}
 use Rattle.rvm_arguments.specs.declared.arguments.Arguments.{Arguments}
-use Rattle.rvm_arguments.specs.declared.arguments.Arguments.TheVariants.{Run, Asm, Dis, Debug, Script, Move, Audit, Host, Tell, Replay}
+use Rattle.rvm_arguments.specs.declared.arguments.Arguments.TheVariants.{Run, Asm, Dis, Debug, Script, Move, Audit, Host, Tell, Replay, AuditJournals}
 use Rattle.rvm_program.specs.Ended.{HasEnded, HasRunTo, HostEnded, IsUnbegun, IsUntold, MoveHasStatus, TellEnded, Written}
 use Rattle.rvm_program.specs.Performed.{HasFailed, IsJudged, IsPassingOn, IsTelling, TellsMore}
 use Rattle.rvm_arguments.specs.declared.arguments.HostArguments.{HostArguments}
@@ -125,6 +125,7 @@ more files created (Audit a) n script output errors e = absurd e.ended
 more files created (Host a) n script output errors e = hosted files a n output e
 more files created (Tell a) n script output errors e = told a (suc (suc n)) e
 more files created (Replay a) n script output errors e = absurd e
+more files created (AuditJournals a) n script output errors e = absurd e
 
 -- a command that has ended was asked for its status
 ended : (files created : Named) (a : Arguments) (s : ℕ) (script : Option (List ℕ)) (output errors : Written)

@@ -1,9 +1,10 @@
 -- How a command ended, given the files that it names.
 use Rattle.std.specs.Borrow.{Bor}
-use Rattle.std.specs.Prelude.{◌≡◌, ◌⊎◌, ⊤, ℕ, zero, suc, true, List, [], Option, None, Some, Result, option_map}
+use Rattle.std.specs.Prelude.{◌≡◌, ◌⊎◌, ⊤, ℕ, zero, suc, Bool, true, false, List, [], ◌∷◌, ◌++◌, Option, None, Some, Result, option_map}
 use Rattle.rvm_arguments.specs.declared.arguments.Arguments.{Arguments}
-use Rattle.rvm_arguments.specs.declared.arguments.Arguments.TheVariants.{Run, Asm, Dis, Debug, Script, Move, Audit, Host, Tell, Replay}
+use Rattle.rvm_arguments.specs.declared.arguments.Arguments.TheVariants.{Run, Asm, Dis, Debug, Script, Move, Audit, Host, Tell, Replay, AuditJournals}
 use Rattle.rvm_arguments.specs.declared.arguments.AsmArguments.{AsmArguments}
+use Rattle.rvm_arguments.specs.declared.arguments.AuditJournalsArguments.{AuditJournalsArguments}
 use Rattle.rvm_arguments.specs.declared.arguments.DebugArguments.{DebugArguments}
 use Rattle.rvm_arguments.specs.declared.arguments.DisArguments.{DisArguments}
 use Rattle.rvm_arguments.specs.declared.arguments.HostArguments.{HostArguments}
@@ -20,6 +21,10 @@ use Rattle.rvm_command.specs.Ends.{HasStatus, IsAsmEnd, IsDebugEnd, IsListEnd, I
 use Rattle.rvm_command.specs.Refusals.{IsTold, refused}
 use Rattle.rvm_host_command.specs.Consoles.{IsShownAgain}
 use Rattle.rvm_host_command.specs.Hosted.{IsHostedTo}
+use Rattle.rvm_host_command.specs.Journals.{AreAudited}
+use Rattle.rvm_host_command.specs.declared.journal_audit.AuditText.{AuditText}
+use Rattle.rvm_host_command.specs.declared.journal_audit.AuditText.TheVariants.{Order, Summary}
+use Rattle.rvm_host_command.specs.declared.journal_file.JournalFile.{JournalFile}
 use Rattle.rvm_move.specs.Ended.{IsMoved, IsNotMoved}
 use Rattle.rvm_move.specs.Orders.{IsAudited, IsNotAudited}
 use Rattle.rvm_program.specs.Files.{IsApart, IsCreated, IsFile, IsImage, IsInput, IsOpened, IsUnread, Named}
@@ -170,6 +175,41 @@ ReplayEnded files a zero output = HasReplayed files a output
 ReplayEnded files a (suc zero) output = ⊤
 ReplayEnded files a (suc (suc n)) output = ⊥
 
+-- these are the journals in the files with these names, in order
+abbrev pub AreJournals : (files : Named) → (names : List (Bor (List ℕ))) → List JournalFile → Type 0
+AreJournals files [] [] = ⊤
+AreJournals files (n ∷ ns) (j ∷ js) = IsFile (files n.now) j.bytes.items × AreJournals files ns js
+AreJournals files names journals = ⊥
+
+-- one more journal, which has the bytes of a file
+pub record IsOneMore (known : Option (List ℕ)) (before after : List JournalFile) : Type 0 where
+  pub journal : JournalFile
+  pub is_file : IsFile known journal.bytes.items
+  pub last : after ≡ before ++ journal ∷ []
+
+-- what an audit of journals writes: the order, if that is asked for, or else a summary
+abbrev pub text_of : (order : Bool) → AuditText
+text_of true = Order
+text_of false = Summary
+
+-- journals were audited, and what was asked for was written after these bytes
+abbrev pub AreAuditedTo : List JournalFile → (image : List ℕ) → AuditText → (before : Option (List ℕ)) → Type 0
+AreAuditedTo journals image text before = (after : Option (List ℕ)) × AreAudited journals image text before after
+
+-- `audit-journals` was given the files that it names, which have an order, and wrote to a buffer in front of the output
+pub record HasAudited (files : Named) (a : AuditJournalsArguments) (output : Option (List ℕ)) : Type 0 where
+  pub journals : List JournalFile
+  pub image : List ℕ
+  pub journals_are : AreJournals files a.journals.items journals
+  pub image_is : IsFile (files a.image.now) image
+  pub audited : AreAuditedTo journals image (text_of a.order) output
+
+-- by the status: the journals have an order; or something was refused or failed, or they have none
+abbrev pub JournalsEnded : (files : Named) → AuditJournalsArguments → (status : ℕ) → (output : Option (List ℕ)) → Type 0
+JournalsEnded files a zero output = HasAudited files a output
+JournalsEnded files a (suc zero) output = ⊤
+JournalsEnded files a (suc (suc n)) output = ⊥
+
 -- what a command line asks for ended with this status
 abbrev pub HasEnded : (files created : Named) → Arguments → (status : ℕ) → (script : Option (List ℕ))
     → (output errors : Written) → Type 0
@@ -183,6 +223,7 @@ HasEnded files created (Audit a) status script output errors = AuditEnded files 
 HasEnded files created (Host a) status script output errors = HostEnded files a status output
 HasEnded files created (Tell a) status script output errors = TellEnded status
 HasEnded files created (Replay a) status script output errors = ReplayEnded files a status output
+HasEnded files created (AuditJournals a) status script output errors = JournalsEnded files a status output.before
 
 -- a command did not begin, since a file could not be opened or read, memory ran out, or a file has more bytes than it
 -- may have; and that was reported

@@ -11,19 +11,16 @@ ghost use Rattle.std.specs.Io.Buffered.{writer_contents};
 ghost use Rattle.rvm_command.specs.declared.refused.Refused.{Refused};
 ghost use Rattle.rvm_command.specs.declared.run.Ended.{Ended};
 ghost use Rattle.rvm_command.specs.Ends.{RunHasStatus};
-ghost use Rattle.rvm_program.specs.Ended.{AsmEnded, AuditEnded, DebugEnded, DisEnded, HasRunTo, HostEnded, IsFileOrNone, IsNamedFile, MoveEnded, ReplayEnded, RunEnded, ScriptEnded, TellEnded, ToTell, report_name, trace_name, written};
+ghost use Rattle.rvm_program.specs.Ended.{AsmEnded, AuditEnded, DebugEnded, DisEnded, HasRunTo, HostEnded, IsNamedFile, MoveEnded, RunEnded, ScriptEnded, TellEnded, ToTell, report_name, trace_name, written};
 ghost use Rattle.rvm_program.specs.Files.{IsFile, IsFileRefusal, IsFirst, IsFirstInput, IsImage, IsLong, IsLongInput, IsUnread, max_size};
 
-use crate::files::{
-    MAX_FILE_SIZE, MAX_JOURNAL_SIZE, NamedFiles, keep_apart, read_beginning, read_file, read_whole,
-    refusal_of,
-};
+use crate::files::{MAX_FILE_SIZE, NamedFiles, keep_apart, read_beginning, read_whole, refusal_of};
 use crate::images::{begin_image, check_image, read_image};
 use crate::system::System;
 use either::Either;
 use rvm_arguments::{
     AsmArguments, DebugArguments, DisArguments, GuestArguments, HostArguments, MoveArguments,
-    ReplayArguments, ReportArguments, RunArguments, ScriptArguments, TellArguments, TraceArguments,
+    ReportArguments, RunArguments, ScriptArguments, TellArguments, TraceArguments,
 };
 use rvm_cell::{InputQueue, read_input as read_console_input};
 use rvm_command::asm_command::asm_command;
@@ -32,7 +29,6 @@ use rvm_command::dis_command::dis_command;
 use rvm_command::run_command::{RunFiles, run_command};
 use rvm_command::script_command::script_command;
 use rvm_host_command::host_command::{HostBytes, host_command};
-use rvm_host_command::replay_command::replay_command;
 use rvm_host_command::tell_command::{LOST, connect_to, tell_command};
 use rvm_mem::PagedMemory;
 use rvm_move::audit_command::audit_command;
@@ -460,7 +456,7 @@ fn read_beside<Rt: Threads + Wait + Copy + Send + 'static, I: Read + Drop + Send
 }
 
 /// All bytes of a file. Fails with its name and the refusal.
-fn read_told<'a, F: NamedFiles>(
+pub(crate) fn read_told<'a, F: NamedFiles>(
     files: &F,
     alloc: Global,
     path: &'a str,
@@ -541,89 +537,9 @@ fn tell_lines<Rt: System, S: Read + Write + OpenStream + Drop, I: BufRead, O: Wr
     }
 }
 
-/// Reads a journal, and the image with which its host began, and has the host do again what the journal tells. If a file
-/// is refused, writes its name and the refusal to `errors`, and returns the status 1.
-#[tactic(auto, using(crate::proofs::Ended::replay_ended))]
-pub(crate) fn replay<M: PagedMemory + Drop, F: NamedFiles, O: Write, E: Write>(
-    alloc: Global,
-    files: &F,
-    arguments: &ReplayArguments,
-    output: &mut O,
-    errors: &mut E,
-) -> Told
-    ensures { IfOk result (λ status. ReplayEnded (F.bytes_of files.now) arguments.now status
-        (written (O.contents output.old) (O.contents output.new))) }
-{
-    match read_replayed(alloc, files, arguments) {
-        Ok(read) => replay_command::<M, O, E>(
-            alloc,
-            arguments.journal,
-            &read.journal,
-            &read.image,
-            output,
-            errors,
-        ),
-        Err((path, why)) => {
-            writeln!(errors, "{path}: {why}")?;
-            Ok(1)
-        }
-    }
-}
-
-/// What the files of a replay hold.
-#[derive(Drop)]
-struct ReplayFiles {
-    journal: Vec<u8>,
-    image: Vec<u8>,
-}
-
-/// Reads the files of a replay. Fails with the name of the first file that is refused, and the refusal.
-fn read_replayed<'a, F: NamedFiles>(
-    alloc: Global,
-    files: &F,
-    arguments: &ReplayArguments<'a>,
-) -> Result<ReplayFiles, (&'a str, Refusal)>
-    ensures journal { IfOk result (λ r. IsFile (F.bytes_of files.now arguments.now.journal.now) r.journal.items) }
-    ensures image { IfOk result (λ r. IsFileOrNone (F.bytes_of files.now) arguments.now.image r.image.items) }
-{
-    let image = read_named(alloc, files, arguments.image)?;
-    Ok(ReplayFiles {
-        journal: read_told_journal(files, alloc, arguments.journal)?,
-        image,
-    })
-}
-
-/// All bytes of a file, or none if no file is named. Fails with its name and the refusal.
-fn read_named<'a, F: NamedFiles>(
-    alloc: Global,
-    files: &F,
-    name: Option<&'a str>,
-) -> Result<Vec<u8>, (&'a str, Refusal)>
-    ensures { IfOk result (λ bytes. IsFileOrNone (F.bytes_of files.now) name.entry bytes.items) }
-{
-    match name {
-        Some(name) => read_told(files, alloc, name),
-        None => Ok(Vec::new(alloc)),
-    }
-}
-
-/// All bytes of the file of a journal. Fails with its name and the refusal.
-fn read_told_journal<'a, F: NamedFiles>(
-    files: &F,
-    alloc: Global,
-    path: &'a str,
-) -> Result<Vec<u8>, (&'a str, Refusal)>
-    ensures { IfOk result (λ v. IsFile (F.bytes_of files.now path.now) v.items) }
-{
-    match read_file(files, alloc, path, MAX_JOURNAL_SIZE, Refusal::TooLong) {
-        Ok(bytes) => Ok(bytes),
-        Err(why) => Err((path, why)),
-    }
-}
-
 /// An empty buffer in front of a writer.
 #[tactic(auto, using(crate::proofs::Buffers::nothing_held))]
-fn buffered<W: Write + Drop>(alloc: Global, writer: W) -> Result<BufWriter<W>, Refusal>
+pub(crate) fn buffered<W: Write + Drop>(alloc: Global, writer: W) -> Result<BufWriter<W>, Refusal>
     ensures empty { IfOk result (λ b. writer_contents W.contents b ≡ W.contents writer) }
     ensures refused { IfErr result IsFileRefusal }
 {

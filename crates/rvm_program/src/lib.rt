@@ -4,7 +4,7 @@
 //! Stands on the commands and `clap`, and reaches files through the runtime or another `NamedFiles` alone,
 //! so that another program can call what `rvmove` does.
 //!
-//! To be read in this order: `perform`, `commands`, `images`, `files`, `system`, `descriptors`, `words`.
+//! To be read in this order: `perform`, `commands`, `journals`, `images`, `files`, `system`, `descriptors`, `words`.
 #![tactic(auto)]
 
 ghost use Rattle.std.specs.Prelude.{◌≡◌, ◌≢◌, ◌⊎◌, ◌<◌, None, IfErr, IfOk, OnErr, map};
@@ -18,6 +18,7 @@ mod commands;
 mod descriptors;
 mod files;
 mod images;
+mod journals;
 mod system;
 mod words;
 
@@ -266,7 +267,14 @@ where
             rt, files, arguments, output, errors,
         )),
         Arguments::Tell(arguments) => Ok(commands::tell(rt, arguments, input, output, errors)),
-        Arguments::Replay(arguments) => Ok(commands::replay::<M, F, O, E>(
+        Arguments::Replay(arguments) => Ok(journals::replay::<M, F, O, E>(
+            rt.alloc(),
+            files,
+            arguments,
+            output,
+            errors,
+        )),
+        Arguments::AuditJournals(arguments) => Ok(journals::audit_journals::<M, F, O, E>(
             rt.alloc(),
             files,
             arguments,

@@ -1,0 +1,219 @@
+//! The commands over journals of hosts. Each reads the files that the command line names, in their order there but the
+//! image first, and calls the command over values. If a file is refused, each writes its name and the refusal.
+
+ghost use Rattle.std.specs.Prelude.{◌≡◌, ◌⊎◌, [], ◌∷◌, ◌++◌, IfOk, OnOk};
+ghost use Rattle.rvm_program.specs.Ended.{AreAuditedTo, AreJournals, IsFileOrNone, IsOneMore, JournalsEnded, ReplayEnded, text_of, written};
+ghost use Rattle.rvm_program.specs.Files.{IsFile};
+
+use crate::commands::{Told, buffered, read_told};
+use crate::files::{MAX_JOURNAL_SIZE, NamedFiles, read_file};
+use rvm_arguments::{AuditJournalsArguments, ReplayArguments};
+use rvm_command::refused::{Refused, tell};
+use rvm_host_command::journal_audit::{AuditText, audit_journals as audit_files};
+use rvm_host_command::journal_file::JournalFile;
+use rvm_host_command::replay_command::replay_command;
+use rvm_mem::PagedMemory;
+use rvm_refusal::Refusal;
+use std::alloc::{AllocError, Global};
+use std::io::Write;
+
+/// Reads a journal, and the image with which its host began, and has the host do again what the journal tells. If a file
+/// is refused, writes its name and the refusal to `errors`, and returns the status 1.
+#[tactic(auto, using(crate::proofs::Ended::replay_ended))]
+pub(crate) fn replay<M: PagedMemory + Drop, F: NamedFiles, O: Write, E: Write>(
+    alloc: Global,
+    files: &F,
+    arguments: &ReplayArguments,
+    output: &mut O,
+    errors: &mut E,
+) -> Told
+    ensures { IfOk result (λ status. ReplayEnded (F.bytes_of files.now) arguments.now status
+        (written (O.contents output.old) (O.contents output.new))) }
+{
+    match read_replayed(alloc, files, arguments) {
+        Ok(read) => replay_command::<M, O, E>(
+            alloc,
+            arguments.journal,
+            &read.journal,
+            &read.image,
+            output,
+            errors,
+        ),
+        Err((path, why)) => {
+            writeln!(errors, "{path}: {why}")?;
+            Ok(1)
+        }
+    }
+}
+
+/// What the files of a replay hold.
+#[derive(Drop)]
+struct ReplayFiles {
+    journal: Vec<u8>,
+    image: Vec<u8>,
+}
+
+/// Reads the files of a replay. Fails with the name of the first file that is refused, and the refusal.
+fn read_replayed<'a, F: NamedFiles>(
+    alloc: Global,
+    files: &F,
+    arguments: &ReplayArguments<'a>,
+) -> Result<ReplayFiles, (&'a str, Refusal)>
+    ensures journal { IfOk result (λ r. IsFile (F.bytes_of files.now arguments.now.journal.now) r.journal.items) }
+    ensures image { IfOk result (λ r. IsFileOrNone (F.bytes_of files.now) arguments.now.image r.image.items) }
+{
+    let image = read_named(alloc, files, arguments.image)?;
+    Ok(ReplayFiles {
+        journal: read_told_journal(files, alloc, arguments.journal)?,
+        image,
+    })
+}
+
+/// All bytes of a file, or none if no file is named. Fails with its name and the refusal.
+fn read_named<'a, F: NamedFiles>(
+    alloc: Global,
+    files: &F,
+    name: Option<&'a str>,
+) -> Result<Vec<u8>, (&'a str, Refusal)>
+    ensures { IfOk result (λ bytes. IsFileOrNone (F.bytes_of files.now) name.entry bytes.items) }
+{
+    match name {
+        Some(name) => read_told(files, alloc, name),
+        None => Ok(Vec::new(alloc)),
+    }
+}
+
+/// Reads the journals of the hosts of a world and the image of its guest, and audits the journals. If a file is refused,
+/// writes its name and the refusal to `errors`, and returns the status 1.
+#[tactic(auto, using(crate::proofs::AuditedFiles::journals_ended))]
+pub(crate) fn audit_journals<M: PagedMemory + Drop, F: NamedFiles, O: Write, E: Write>(
+    alloc: Global,
+    files: &F,
+    arguments: &AuditJournalsArguments,
+    output: &mut O,
+    errors: &mut E,
+) -> Told
+    ensures { IfOk result (λ status. JournalsEnded (F.bytes_of files.now) arguments.now status (O.contents output.old)) }
+{
+    match read_audited(alloc, files, arguments) {
+        Ok(read) => audit_read::<M, O, E>(alloc, &read, arguments.order, output, errors),
+        Err((path, why)) => {
+            writeln!(errors, "{path}: {why}")?;
+            Ok(1)
+        }
+    }
+}
+
+/// What the files of an audit of journals hold.
+#[derive(Drop)]
+struct AuditFiles<'a> {
+    journals: Vec<JournalFile<'a>>,
+    image: Vec<u8>,
+}
+
+/// Reads the files of an audit. Fails with the name of the first file that is refused, and the refusal.
+fn read_audited<'a, F: NamedFiles>(
+    alloc: Global,
+    files: &F,
+    arguments: &AuditJournalsArguments<'a>,
+) -> Result<AuditFiles<'a>, (&'a str, Refusal)>
+    ensures journals { IfOk result (λ r. AreJournals (F.bytes_of files.now) arguments.now.journals.items r.journals.items) }
+    ensures image { IfOk result (λ r. IsFile (F.bytes_of files.now arguments.now.image.now) r.image.items) }
+{
+    let image = read_told(files, alloc, arguments.image)?;
+    Ok(AuditFiles {
+        journals: read_journals(alloc, files, arguments.journals.as_slice())?,
+        image,
+    })
+}
+
+/// Reads journals. Fails with the name of the first file that is refused, and the refusal.
+fn read_journals<'a, F: NamedFiles>(
+    alloc: Global,
+    files: &F,
+    names: &[&'a str],
+) -> Result<Vec<JournalFile<'a>>, (&'a str, Refusal)>
+    ensures { IfOk result (λ read. AreJournals (F.bytes_of files.now) names.now read.items) }
+{
+    let mut read = Vec::new(alloc);
+    for index in 0..names.len() {
+        read_one(alloc, files, names[index], &mut read)?;
+    }
+    Ok(read)
+}
+
+/// Reads one more journal. Fails with its name and the refusal.
+fn read_one<'a, F: NamedFiles>(
+    alloc: Global,
+    files: &F,
+    name: &'a str,
+    read: &mut Vec<JournalFile<'a>>,
+) -> Result<(), (&'a str, Refusal)>
+    ensures { OnOk result (IsOneMore (F.bytes_of files.now name.now) read.old.items read.new.items) }
+{
+    let bytes = read_told_journal(files, alloc, name)?;
+    match keep(read, JournalFile { name, bytes }) {
+        Ok(()) => Ok(()),
+        Err(_) => Err((name, Refusal::OutOfMemory)),
+    }
+}
+
+/// Keeps one more journal.
+fn keep<'a>(read: &mut Vec<JournalFile<'a>>, journal: JournalFile<'a>) -> Result<(), AllocError>
+    ensures { OnOk result (read.new.items ≡ read.old.items ++ journal.entry ∷ []) }
+{
+    Ok(read.push(journal)?)
+}
+
+/// Audits journals that were read, and writes what is asked for to a buffer in front of `output`.
+fn audit_read<M: PagedMemory + Drop, O: Write, E: Write>(
+    alloc: Global,
+    read: &AuditFiles<'_>,
+    order: bool,
+    output: &mut O,
+    errors: &mut E,
+) -> Told
+    ensures status { IfOk result (λ status. (status ≡ 0) ⊎ (status ≡ 1)) }
+    ensures audited { IfOk result (λ status. status ≡ 0
+        → AreAuditedTo read.now.journals.items read.now.image.items (text_of order) (O.contents output.old)) }
+{
+    match buffered(alloc, output) {
+        Ok(mut output) => {
+            let text = text_of(order);
+            audit_files::<M, _, E>(
+                alloc,
+                &read.journals,
+                &read.image,
+                text,
+                &mut output,
+                errors,
+            )
+        }
+        Err(why) => tell(Refused::from(why), errors),
+    }
+}
+
+/// What an audit of journals writes.
+fn text_of(order: bool) -> AuditText
+    ensures { result ≡ text_of order }
+{
+    if order {
+        AuditText::Order
+    } else {
+        AuditText::Summary
+    }
+}
+
+/// All bytes of the file of a journal. Fails with its name and the refusal.
+fn read_told_journal<'a, F: NamedFiles>(
+    files: &F,
+    alloc: Global,
+    path: &'a str,
+) -> Result<Vec<u8>, (&'a str, Refusal)>
+    ensures { IfOk result (λ v. IsFile (F.bytes_of files.now path.now) v.items) }
+{
+    match read_file(files, alloc, path, MAX_JOURNAL_SIZE, Refusal::TooLong) {
+        Ok(bytes) => Ok(bytes),
+        Err(why) => Err((path, why)),
+    }
+}
