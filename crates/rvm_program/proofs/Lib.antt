@@ -1,4 +1,9 @@
 pub mod Buffers
+pub mod Checks
 pub mod Ended
+pub mod Lines
+pub mod OneMore
+pub mod Pieces
 pub mod Reading
 pub mod Statuses
+pub mod Told

@@ -2,7 +2,7 @@
 use Rattle.std.specs.Prelude.{◌≡◌, ◌⊎◌, ◌<◌, ◌*◌, ◌^◌, ℕ, Bool, if◌then◌else◌, true, false, List, [], Option, None, Some, IfSome, length, take}
 use Rattle.std.specs.Borrow.{Bor}
 use Rattle.rvm_arguments.specs.declared.arguments.Arguments.{Arguments}
-use Rattle.rvm_arguments.specs.declared.arguments.Arguments.TheVariants.{Run, Asm, Dis, Debug, Script, Move, Audit, Host, Tell, Replay}
+use Rattle.rvm_arguments.specs.declared.arguments.Arguments.TheVariants.{Run, Asm, Dis, Debug, Script, Move, Audit, Host, Tell, Replay, AuditJournals}
 use Rattle.rvm_arguments.specs.declared.arguments.GuestArguments.{GuestArguments}
 use Rattle.rvm_refusal.specs.declared.refusal.Refusal.{Refusal}
 use Rattle.rvm_refusal.specs.declared.refusal.Refusal.TheVariants as refusal
@@ -87,6 +87,7 @@ IsTooLong files (Audit a) r = IsLongImage files a.guest r
 IsTooLong files (Host a) r = ⊥
 IsTooLong files (Tell a) r = ⊥
 IsTooLong files (Replay a) r = ⊥
+IsTooLong files (AuditJournals a) r = ⊥
 
 -- why what a command line asks for does not begin: a file cannot be opened or read, memory ran out, or a file has more
 -- bytes than it may have
