@@ -1,6 +1,7 @@
 pub mod Buffers
 pub mod Checks
 pub mod Ended
+pub mod Explained
 pub mod Lines
 pub mod OneMore
 pub mod Pieces

@@ -5,7 +5,8 @@ use Rattle.rvm_asm.specs.Images.{Piece}
 use Rattle.rvm_asm.specs.Refusals.{IsError}
 use Rattle.rvm_asm.specs.declared.error.AsmError.TheVariants.{TooLarge, TooMany}
 use Rattle.rvm_elf.specs.File.{meaning}
-use Rattle.rvm_program.specs.Defects.{IsLineOf, found_text}
+use Rattle.rvm_program.specs.Defects.{found_text}
+use Rattle.rvm_program.specs.LineFaults.{IsLineOf}
 use Rattle.rvm_program.specs.ElfFaults.{HasFault}
 use Rattle.rvm_program.specs.Outsides.{IsOutside}
 use Rattle.rvm_program.specs.declared.defect.Defect.{Defect}

@@ -3,6 +3,7 @@ pub mod Ended
 pub mod Performed
 pub mod Words
 pub mod FileFaults
+pub mod LineFaults
 pub mod ElfFaults
 pub mod Outsides
 pub mod Defects

@@ -12,7 +12,7 @@ use crate::finding::Refusing;
 use crate::found::{Found, write_found};
 use crate::refusal_report::RefusalReport;
 use crate::unfound::Unfound;
-use rvm_arguments::Arguments;
+use rvm_arguments::{Arguments, HostArguments};
 use rvm_refusal::LinkFault;
 use std::alloc::Global;
 use std::io::Write;
@@ -60,7 +60,7 @@ pub(crate) fn explain_report<F: NamedFiles, E: Write>(
 pub(crate) fn find_for_host<'a, F: NamedFiles>(
     files: &F,
     alloc: Global,
-    arguments: &Arguments<'a>,
+    arguments: &HostArguments<'a>,
 ) -> Option<Found<'a>>
     ensures { IfSome result (IsTrue (F.bytes_of files.now)) }
 {
@@ -69,7 +69,7 @@ pub(crate) fn find_for_host<'a, F: NamedFiles>(
         alloc,
         report: None,
     };
-    refusing.find(arguments)
+    refusing.find_in_host(arguments)
 }
 
 /// Writes that nothing is found to be wrong with the files, and what else may have failed. `LinkFault` if the write

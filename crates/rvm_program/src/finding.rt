@@ -159,7 +159,7 @@ impl<'b, F: NamedFiles> Refusing<'b, F> {
     }
 
     /// What is wrong with the files of `host`, in the order in which it reads them.
-    fn find_in_host<'a>(&self, host: &HostArguments<'a>) -> Option<Found<'a>>
+    pub(crate) fn find_in_host<'a>(&self, host: &HostArguments<'a>) -> Option<Found<'a>>
         ensures { IfSome result (IsTrue (F.bytes_of self.now.files.now)) }
     {
         if let Some(guest) = &host.guest {

@@ -12,7 +12,7 @@
 ghost use Rattle.std.specs.Prelude.{◌≡◌, ◌≢◌, ◌⊎◌, ◌<◌, None, IfErr, IfOk, OnErr, map};
 ghost use Rattle.clap.specs.Words.{kind_of};
 ghost use Rattle.clap.specs.declared.error.kind.ErrorKind.TheVariants as kind;
-ghost use Rattle.rvm_program.specs.Ended.{HasEnded, IsUnbegun, IsUntold, ToTell, written};
+ghost use Rattle.rvm_program.specs.Ended.{HasEnded, HostEnded, IsUnbegun, IsUntold, ToTell, written};
 ghost use Rattle.rvm_program.specs.Files.{IsUnread};
 ghost use Rattle.rvm_program.specs.Performed.{AreFaulty, AreJudged, ArePassingOn, AreTelling, HasEndedEither, HasEndedSo, HasFailed, HasFailedEither, HasFailedSo, IsEndedSo, IsJudged, IsPassingOn, IsRefusedSo, IsShown, IsTelling};
 
@@ -41,7 +41,7 @@ pub use file_fault::FileFault;
 use files::HostFiles;
 pub use files::{MAX_FILE_SIZE, MAX_JOURNAL_SIZE, NamedFiles};
 use found::write_found;
-use rvm_arguments::{Arguments, CommandLine};
+use rvm_arguments::{Arguments, CommandLine, HostArguments};
 use rvm_command::refused::{Refused, tell};
 use rvm_command_line::parse_args;
 use rvm_mem::PagedMemory;
@@ -185,8 +185,11 @@ where
         return do_command::<M, Rt, F, I, O, E>(rt, files, arguments, input, output, errors);
     }
     match arguments {
-        Arguments::Host(_) | Arguments::Tell(_) => {
-            do_host::<M, Rt, F, I, O, E>(rt, files, arguments, input, output, errors)
+        Arguments::Tell(_) => {
+            do_command::<M, Rt, F, I, O, E>(rt, files, arguments, input, output, errors)
+        }
+        Arguments::Host(arguments) => {
+            do_host::<M, Rt, F, O, E>(rt, files, arguments, output, errors)
         }
         _ => do_explained::<M, Rt, F, I, O, E>(rt, files, arguments, input, output, errors),
     }
@@ -239,40 +242,49 @@ where
     status
 }
 
-/// Works as a host, or talks to one, and says after it what was wrong with the files of a host that did not begin.
+/// Works at a host, and says after it what was wrong with the files that it was given if it did not begin. A host writes to
+/// `errors` as it works.
 fn do_host<
     M: PagedMemory + Drop + Send + 'static,
     Rt: System + Net + Threads + Wait + 'static,
     F: NamedFiles,
-    I: Read,
     O: Write,
     E: Write,
->(rt: &Rt, files: &F, arguments: &Arguments, input: &mut I, output: &mut O, errors: &mut E) -> u8
+>(rt: &Rt, files: &F, arguments: &HostArguments, output: &mut O, errors: &mut E) -> u8
 where
     Rt::Stream: Send,
     Rt::Listener: Send + Sync,
     Rt::File: Send,
-    ensures status { 3 < result → IsJudged arguments.now }
-    ensures lost { result ≡ 3 → IsTelling arguments.now ⊎ IsJudged arguments.now }
-    ensures passed { result ≡ 2 → IsPassingOn arguments.now }
-    ensures others { 1 < result → HasEnded (F.bytes_of files.now) (F.created_of files.now) arguments.now result (I.remaining input.old)
-        (written (O.contents output.old) (O.contents output.new))
-        (written (E.contents errors.old) (E.contents errors.new)) }
-    ensures done { result ≡ 0 → HasEnded (F.bytes_of files.now) (F.created_of files.now) arguments.now 0 (I.remaining input.old)
-        (written (O.contents output.old) (O.contents output.new))
-        (written (E.contents errors.old) (E.contents errors.new)) }
-    ensures refused { result ≡ 1 → HasFailed (F.bytes_of files.now) (F.created_of files.now) arguments.now
-        (I.remaining input.old) (written (O.contents output.old) (O.contents output.new))
-        (written (E.contents errors.old) (E.contents errors.new)) }
+    ensures ended { HostEnded (F.bytes_of files.now) arguments.now result
+        (written (O.contents output.old) (O.contents output.new)) }
 {
     let found = find_for_host(files, rt.alloc(), arguments);
-    let status = do_command::<M, Rt, F, I, O, E>(rt, files, arguments, input, output, errors);
+    let status = work_as_host::<M, Rt, F, O, E>(rt, files, arguments, output, errors);
     if let Some(found) = found {
         if status == REFUSED {
             let _unexplained = write_found(&found, errors);
         }
     }
     status
+}
+
+/// Works at a host. Returns the status: that of `commands::host`, or `UNTOLD` if it failed to report how it ended.
+#[tactic(auto, using(crate::proofs::Statuses::host_has_ended))]
+fn work_as_host<
+    M: PagedMemory + Drop + Send + 'static,
+    Rt: System + Net + Threads + Wait + 'static,
+    F: NamedFiles,
+    O: Write,
+    E: Write,
+>(rt: &Rt, files: &F, arguments: &HostArguments, output: &mut O, errors: &mut E) -> u8
+where
+    Rt::Stream: Send,
+    Rt::Listener: Send + Sync,
+    Rt::File: Send,
+    ensures ended { HostEnded (F.bytes_of files.now) arguments.now result
+        (written (O.contents output.old) (O.contents output.new)) }
+{
+    status_of(commands::host::<M, Rt, F, O, E>(rt, files, arguments, output, errors))
 }
 
 /// Does what a command line asks for. Returns the status: 0 if it was done, 1 if it was refused or a write to `errors`

@@ -3,7 +3,7 @@
 ghost use Rattle.std.specs.Prelude.{◌≡◌, ◌≤◌, [], IfOk, IfSome, get_or, length, map, take};
 ghost use Rattle.rvm_program.specs.declared.line_fault.LineFault.TheVariants.{Assembly};
 ghost use Rattle.std.specs.Str.Lines.{lines};
-ghost use Rattle.rvm_program.specs.Defects.{IsLineOf, line_of, line_refusal, line_words, printable, shown};
+ghost use Rattle.rvm_program.specs.LineFaults.{IsLineOf, line_of, line_refusal, line_words, printable, shown};
 
 use arrayvec::ArrayVec;
 use rvm_asm_line::Fault;

@@ -1,6 +1,6 @@
 use Rattle.std.proofs.Common.{◌∙◌, ap, arith, map}
 use Rattle.std.proofs.lemmas.List.{take_all}
-use Rattle.rvm_program.specs.Defects.{printable}
+use Rattle.rvm_program.specs.LineFaults.{printable}
 use Rattle.rvm_program.proofs.line_fault.printable_bytes.Goals as goal
 
 pub returns : goal.returns

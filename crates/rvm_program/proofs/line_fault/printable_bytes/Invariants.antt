@@ -1,6 +1,6 @@
 use Rattle.std.proofs.Common.{◌≡◌, map, take}
 use Rattle.arrayvec.specs.ArrayVec.{array_vec_len}
-use Rattle.rvm_program.specs.Defects.{printable}
+use Rattle.rvm_program.specs.LineFaults.{printable}
 use Rattle.rvm_program.proofs.line_fault.printable_bytes.Given as goal
 
 -- the bytes so far are shown
