@@ -13,9 +13,10 @@ pub record TellsRefusal (report : List ℕ) : Type 0 where
 -- what is said if nothing is found to be wrong with the files
 abbrev pub unfound_words : Unfound → List ℕ
 unfound_words unfound.Cause = codes "nothing wrong was found with the files"
-unfound_words unfound.Memory = codes "memory ran out"
+unfound_words unfound.Memory = codes "memory ran out: give this process more"
 unfound_words unfound.Line = codes "the text cannot be read again, so its line is not shown"
 unfound_words unfound.InputLine = codes "standard input: this is no line of a script (docs/SCRIPTS.md)"
+unfound_words unfound.LongInput = codes "standard input: this has more than 67108864 bytes"
 unfound_words unfound.RunWrite = codes "nothing wrong was found with the files: a write to standard output, or to a file that the run writes, may have failed"
 unfound_words unfound.AsmWrite = codes "nothing wrong was found with the files: a write to OUT may have failed"
 unfound_words unfound.DebugStream = codes "nothing wrong was found with the files: a read of standard input, or a write to standard output, may have failed"

@@ -18,6 +18,8 @@ pub(crate) enum Unfound {
     Line,
     /// A line of standard input.
     InputLine,
+    /// The length of standard input.
+    LongInput,
     /// A write of `run`.
     RunWrite,
     /// A write of `asm`.
@@ -42,6 +44,9 @@ impl Unfound {
         if report.line_of(Refusal::BadToken).is_some() {
             return unkept(arguments);
         }
+        if report.is(Refusal::TooLong) {
+            return too_long(arguments);
+        }
         Unfound::Cause
     }
 
@@ -51,9 +56,10 @@ impl Unfound {
     {
         match self {
             Unfound::Cause => "nothing wrong was found with the files",
-            Unfound::Memory => "memory ran out",
+            Unfound::Memory => "memory ran out: give this process more",
             Unfound::Line => "the text cannot be read again, so its line is not shown",
             Unfound::InputLine => "standard input: this is no line of a script (docs/SCRIPTS.md)",
+            Unfound::LongInput => "standard input: this has more than 67108864 bytes",
             Unfound::RunWrite => "nothing wrong was found with the files: a write to standard output, or to a file that the run writes, may have failed",
             Unfound::AsmWrite => "nothing wrong was found with the files: a write to OUT may have failed",
             Unfound::DebugStream => "nothing wrong was found with the files: a read of standard input, or a write to standard output, may have failed",
@@ -68,6 +74,14 @@ fn unkept(arguments: &Arguments) -> Unfound {
     match arguments {
         Arguments::Debug(_) => Unfound::InputLine,
         _ => Unfound::Line,
+    }
+}
+
+/// What has too many bytes, though no file has.
+fn too_long(arguments: &Arguments) -> Unfound {
+    match arguments {
+        Arguments::Debug(_) => Unfound::LongInput,
+        _ => Unfound::Cause,
     }
 }
 
