@@ -1,11 +1,15 @@
 -- What is told of files is true of them.
-use Rattle.std.proofs.Common.{◌≡◌, ◌⊎◌, ◌<◌, ℕ, List, Option, None, Some, inl, inr, length, subst, sym}
+use Rattle.std.proofs.Common.{◌≡◌, ◌⊎◌, ◌<◌, ℕ, List, Option, None, Some, inl, inr, length, take, refl, subst, sym, arith}
+use Rattle.std.proofs.lemmas.List.{take_all}
+use Rattle.std.specs.Str.{IsValidUpTo}
 use Rattle.std.specs.Prelude.{IfSome}
 use Rattle.rvm_program.specs.declared.defect.Defect.{Defect}
 use Rattle.rvm_program.specs.declared.defect.Defect.TheVariants.{File, LongImage, SameBytes, TooLong}
 use Rattle.rvm_program.specs.declared.file_fault.FileFault.{FileFault}
 use Rattle.rvm_program.specs.declared.line_fault.LineDefect.{LineDefect}
+use Rattle.rvm_program.specs.declared.line_fault.LineFault.{LineFault}
 use Rattle.rvm_program.specs.Files.{IsFile}
+use Rattle.rvm_program.specs.LineFaults.{IsLineOf}
 use Rattle.rvm_program.specs.Found.{HasLine, IsFileDefect, IsLongDefect, IsTrueOf, IsUnreadDefect}
 
 -- a file that is too long is told as such
@@ -63,3 +67,27 @@ pub unreadable_is_true : (known : Option (List ℕ)) (told : Option Defect) → 
     → IfSome told (λ c. IfSome known (λ all. IsTrueOf all c))
 unreadable_is_true known None told = tt
 unreadable_is_true known (Some c) told = file_defect known c told
+
+-- what is told of a line of the first bytes of a text is told of the text
+pub line_of_first : (source text : List ℕ) (count number : ℕ) (fault : LineFault) (told : Option LineDefect)
+    → text ≡ take count source → (count ≡ length source) ⊎ IsValidUpTo source count
+    → IfSome told (IsLineOf text number fault) → IfSome told (HasLine source)
+line_of_first source text count number fault None is part line = tt
+line_of_first source text count number fault (Some told) is part line = record {
+  count = count;
+  number = number;
+  fault = fault;
+  part = part;
+  line = subst (λ t. IsLineOf t number fault told) is line;
+}
+
+-- and so is what is told of a line of all of it
+pub line_of_text : (text : List ℕ) (number : ℕ) (fault : LineFault) (told : Option LineDefect)
+    → IfSome told (IsLineOf text number fault) → IfSome told (HasLine text)
+line_of_text text number fault told line =
+    line_of_first text text (length text) number fault told (sym (take_all (length text) text (omega arith))) (inl refl) line
+
+-- a text of the same bytes has the same lines
+pub same_text : (text other : List ℕ) (told : Option LineDefect) → text ≡ other → IfSome told (HasLine text)
+    → IfSome told (HasLine other)
+same_text text other told is line = subst (λ t. IfSome told (HasLine t)) is line

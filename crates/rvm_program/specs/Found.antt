@@ -1,6 +1,7 @@
 -- What is told of a refusal that is explained is true of the files.
 use Rattle.std.specs.Prelude.{◌≡◌, ◌⊎◌, ◌<◌, ⊤, ℕ, List, ◌++◌, Option, Some, Ok, IfSome, codes, length, take}
 use Rattle.std.specs.Io.KnownBytes.{Appends}
+use Rattle.std.specs.Str.{IsValidUpTo}
 use Rattle.rvm_asm.specs.Images.{Piece}
 use Rattle.rvm_asm.specs.Refusals.{IsError}
 use Rattle.rvm_asm.specs.declared.error.AsmError.TheVariants.{TooLarge, TooMany}
@@ -40,11 +41,12 @@ IsTrueOf file (defect.Outside part) = HasOutside file part
 IsTrueOf file defect.LargeText = IsError file TooLarge
 IsTrueOf file defect.ScatteredText = IsError file TooMany
 
--- a line that is told is a line of the first bytes of this text: of all, if they are UTF-8
+-- a line that is told is a line of all bytes of this text, or of those before the first that is no UTF-8
 pub record HasLine (text : List ℕ) (told : LineDefect) : Type 0 where
   pub count : ℕ
   pub number : ℕ
   pub fault : LineFault
+  pub part : (count ≡ length text) ⊎ IsValidUpTo text count
   pub line : IsLineOf (take count text) number fault told
 
 -- what was found is true of the file that is named, if its bytes are known

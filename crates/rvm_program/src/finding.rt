@@ -1,7 +1,8 @@
 //! Finds what is wrong with the files that a command line names, after its command was refused. The files are read
 //! again, and only those that keep their bytes: what a device or a pipe gave is gone.
 
-ghost use Rattle.std.specs.Prelude.{◌≡◌, ◌+◌, IfOk, IfSome};
+ghost use Rattle.std.specs.Prelude.{◌≡◌, ◌+◌, ◌≤◌, IfOk, IfSome, length};
+ghost use Rattle.std.specs.Str.{IsValidUpTo};
 ghost use Rattle.rvm_program.specs.declared.defect.Defect.TheVariants.{SameBytes};
 ghost use Rattle.rvm_program.specs.Files.{IsFile, IsFirst};
 ghost use Rattle.rvm_program.specs.Found.{HasLine, IsFileDefect, IsLongDefect, IsTrue, IsTrueOf, IsUnreadDefect};
@@ -516,27 +517,49 @@ fn same_defect<F: NamedFiles>(files: &F, alloc: Global, output: &str, text: &[u8
 }
 
 /// The line at which an assembly text is refused, if it is at one.
+#[tactic(auto, using(crate::proofs::Told::same_text))]
 fn text_line(alloc: Global, source: &[u8]) -> Option<LineDefect>
     ensures { IfSome result (HasLine source.now) }
 {
     match str::from_utf8(source) {
-        Ok(text) => match assemble(alloc, text) {
-            Err(AsmError::Line(number, fault)) => {
-                line_defect(alloc, text, number, LineFault::Assembly(fault))
-            }
-            _ => None,
-        },
-        Err(error) => bad_byte_line(alloc, &source[..error.valid_up_to()]),
+        Ok(text) => faulty_line(alloc, text),
+        Err(error) => bad_byte_line(alloc, source, error.valid_up_to()),
     }
 }
 
-/// The line of the first byte after these that is no UTF-8, up to that byte.
-fn bad_byte_line(alloc: Global, before: &[u8]) -> Option<LineDefect> {
-    let number = before.iter().filter(|byte| **byte == b'\n').count() + 1;
+/// The line of an assembly text that has a fault, if one has.
+#[tactic(auto, using(crate::proofs::Told::line_of_text))]
+fn faulty_line(alloc: Global, text: &str) -> Option<LineDefect>
+    ensures { IfSome result (HasLine text.now) }
+{
+    match assemble(alloc, text) {
+        Err(AsmError::Line(number, fault)) => {
+            line_defect(alloc, text, number, LineFault::Assembly(fault))
+        }
+        _ => None,
+    }
+}
+
+/// The line of the first byte that is no UTF-8, up to that byte, which stands at `end`.
+#[tactic(auto, using(crate::proofs::Told::line_of_first))]
+fn bad_byte_line(alloc: Global, source: &[u8], end: usize) -> Option<LineDefect>
+    requires bytes { end ≤ length source.now }
+    requires first { IsValidUpTo source.now end }
+    ensures { IfSome result (HasLine source.now) }
+{
+    let before = &source[..end];
+    let number = newlines(before) + 1;
     match str::from_utf8(before) {
         Ok(text) => line_defect(alloc, text, number, LineFault::NotText),
         Err(_) => None,
     }
+}
+
+/// How many ends of lines there are among these bytes.
+fn newlines(bytes: &[u8]) -> usize
+    ensures { result ≤ length bytes.now }
+{
+    bytes.iter().filter(|byte| **byte == b'\n').count()
 }
 
 /// Why an assembly text without a fault in a line is refused, if it is.
@@ -552,9 +575,12 @@ fn text_size(alloc: Global, source: &[u8]) -> Option<Defect>
 }
 
 /// The line of a script with this number, which is refused.
+#[tactic(auto, using(crate::proofs::Told::same_text, crate::proofs::Told::line_of_text))]
 fn script_line(alloc: Global, script: &[u8], number: usize) -> Option<LineDefect>
     ensures { IfSome result (HasLine script.now) }
 {
-    let text = str::from_utf8(script).ok()?;
-    line_defect(alloc, text, number, LineFault::Script)
+    match str::from_utf8(script) {
+        Ok(text) => line_defect(alloc, text, number, LineFault::Script),
+        Err(_) => None,
+    }
 }
