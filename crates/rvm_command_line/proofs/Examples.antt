@@ -1,7 +1,7 @@
 -- What words ask for, worked out by hand.
 use Rattle.std.proofs.Common.{◌≡◌, [], ◌∷◌, Option, None, Some, List, codes, option_map, refl}
 use Rattle.clap.specs.Simple.{subcommand_of}
-use Rattle.clap.specs.Walk.{Text, first_of, one_of, walked}
+use Rattle.clap.specs.Walk.{Text, all_of, first_of, one_of, walked}
 use Rattle.rvm_command_line.specs.Program.{program}
 
 -- the value of an option of the command that words name
@@ -65,3 +65,33 @@ a_host_is_not_judged_unasked = refl
 pub a_host_is_judged : verdict (host_words (codes "--verdict" ∷ [])) ≡ Some (Some (codes "true"))
 unfolding walked
 a_host_is_judged = refl
+
+-- whether the refusal of the command that words name is explained
+abbrev explained : List Text → Option (Option Text)
+explained words = option_map (λ command. one_of (codes "explain") command.1) (subcommand_of program words)
+
+pub no_refusal_is_explained_unasked : explained (codes "rvmove" ∷ codes "run" ∷ codes "a" ∷ []) ≡ Some (Some (codes "false"))
+unfolding walked
+no_refusal_is_explained_unasked = refl
+
+pub a_refusal_is_explained : explained (codes "rvmove" ∷ codes "tell" ∷ codes "--explain" ∷ codes "./a" ∷ []) ≡ Some (Some (codes "true"))
+unfolding walked
+a_refusal_is_explained = refl
+
+pub a_coverage_has_a_file : value (codes "rvmove" ∷ codes "run" ∷ codes "a" ∷ codes "--coverage" ∷ codes "b" ∷ []) (codes "coverage") ≡ Some (Some (codes "b"))
+unfolding walked
+a_coverage_has_a_file = refl
+
+-- the words of an audit of two journals
+abbrev audit_words : List Text
+audit_words =
+    codes "rvmove" ∷ codes "audit-journals" ∷ codes "a" ∷ codes "--image" ∷ codes "c" ∷ codes "b" ∷ codes "--order" ∷ []
+
+pub an_audit_has_all_its_journals : option_map (λ command. all_of (codes "journal") command.1) (subcommand_of program audit_words)
+    ≡ Some (Some (codes "a" ∷ codes "b" ∷ []))
+unfolding walked
+an_audit_has_all_its_journals = refl
+
+pub an_audit_has_its_image : value audit_words (codes "image") ≡ Some (Some (codes "c"))
+unfolding walked
+an_audit_has_its_image = refl

@@ -1,5 +1,5 @@
 -- What `clap` gives for an option, by the rows of a command.
-use Rattle.std.proofs.Common.{◌≡◌, ◌∙◌, sym, Option, List, true, refl, ap, subst, option_map}
+use Rattle.std.proofs.Common.{◌≡◌, ◌∙◌, sym, Bool, Option, List, true, refl, ap, subst, option_map}
 use Rattle.clap.specs.Matches.{first_value, matched_of, one_text, raw_values}
 use Rattle.clap.specs.Simple.{App, HasMatchesOf, is_simple, subcommand_of, subcommand_rows_of}
 use Rattle.clap.specs.Walk.{Text, all_of, first_of, one_of, rows_of}
@@ -7,7 +7,7 @@ use Rattle.clap.specs.declared.parser.matches.ArgMatches.{ArgMatches}
 use Rattle.clap.specs.declared.parser.matches.Found.{Found}
 use Rattle.clap.proofs.WalkLemmas as walk
 use Rattle.rvm_arguments.specs.declared.arguments.Arguments.{Arguments}
-use Rattle.rvm_command_line.specs.Given.{IsAsked}
+use Rattle.rvm_command_line.specs.Given.{IsAsked, IsExplained}
 use Rattle.rvm_command_line.specs.Program.{program}
 
 pub first_row : (f : Found) (id : Text) (text : Option Text) → text ≡ first_value f id → text ≡ first_of id (rows_of f)
@@ -28,3 +28,9 @@ pub asked_of : (a : App) (words : List Text) (m : ArgMatches) (x : Arguments) �
     → IsAsked (subcommand_rows_of m) x → IsAsked (subcommand_of program words) x
 asked_of a words m x matches made asked =
     subst (λ o. IsAsked o x) ((matches (ap is_simple made ∙ is_simple_program)).1 ∙ ap (λ p. subcommand_of p words) made) asked
+
+-- and whether its refusal is explained
+pub explained_of : (a : App) (words : List Text) (m : ArgMatches) (x : Bool) → HasMatchesOf a words m → a ≡ program
+    → IsExplained (subcommand_rows_of m) x → IsExplained (subcommand_of program words) x
+explained_of a words m x matches made explained =
+    subst (λ o. IsExplained o x) ((matches (ap is_simple made ∙ is_simple_program)).1 ∙ ap (λ p. subcommand_of p words) made) explained

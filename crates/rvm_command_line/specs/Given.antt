@@ -1,17 +1,18 @@
 -- What arguments are, by the values that `clap` found for the options of a command.
-use Rattle.std.specs.Prelude.{◌≡◌, ◌≤◌, ◌+◌, ◌*◌, ◌%◌, ℕ, Bool, true, false, [], ◌∷◌, Option, Some, None, option_map, codes}
+use Rattle.std.specs.Prelude.{◌≡◌, ◌≤◌, ◌+◌, ◌*◌, ◌%◌, ℕ, Bool, true, false, [], ◌∷◌, Option, Some, None, option_map, map, codes}
 use Rattle.std.specs.Str.Parse.{IsNumeral, digits_value}
 use Rattle.clap.specs.Walk.{Row, Text, all_of, first_of, one_of}
 use Rattle.std.specs.Prelude.{List}
 use Rattle.rvm_arguments.specs.declared.arguments.Arguments.{Arguments}
-use Rattle.rvm_arguments.specs.declared.arguments.Arguments.TheVariants.{Run, Asm, Dis, Debug, Script, Move, Audit, Host, Tell, Replay}
+use Rattle.rvm_arguments.specs.declared.arguments.Arguments.TheVariants.{Run, Asm, Dis, Debug, Script, Move, Audit, Host, Tell, Replay, AuditJournals}
+use Rattle.rvm_arguments.specs.declared.arguments.AuditJournalsArguments.{AuditJournalsArguments}
 use Rattle.rvm_arguments.specs.declared.arguments.DebugArguments.{DebugArguments}
 use Rattle.rvm_arguments.specs.declared.arguments.GuestArguments.{GuestArguments}
 use Rattle.rvm_arguments.specs.declared.arguments.HostArguments.{HostArguments}
 use Rattle.rvm_arguments.specs.declared.arguments.MoveArguments.{MoveArguments}
 use Rattle.rvm_arguments.specs.declared.arguments.ReplayArguments.{ReplayArguments}
 use Rattle.rvm_arguments.specs.declared.arguments.Report.{Report}
-use Rattle.rvm_arguments.specs.declared.arguments.Report.TheVariants.{Signature}
+use Rattle.rvm_arguments.specs.declared.arguments.Report.TheVariants.{Coverage, Signature}
 use Rattle.rvm_arguments.specs.declared.arguments.ReportArguments.{ReportArguments}
 use Rattle.rvm_arguments.specs.declared.arguments.RunArguments.{RunArguments}
 use Rattle.rvm_arguments.specs.declared.arguments.ScriptArguments.{ScriptArguments}
@@ -86,13 +87,17 @@ pub record IsSignature (pages : ℕ) (given : Option (List Text)) (file : Text) 
   pub length_is : number_of length ≡ Some range.length
   pub inside : IsInRam pages range
 
--- what is reported, to a file with this name
+-- what is reported, to a file with this name: one report alone
 abbrev pub IsReportTo : (pages : ℕ) → List Row → (file : Text) → Report → Type 0
-IsReportTo pages rows file (Signature range) = IsSignature pages (all_of (codes "signature") rows) file range
+IsReportTo pages rows file (Signature range) =
+    IsSignature pages (all_of (codes "signature") rows) file range × (first_of (codes "coverage") rows ≡ None)
+IsReportTo pages rows file Coverage =
+    (first_of (codes "coverage") rows ≡ Some file) × (all_of (codes "signature") rows ≡ None)
 
 -- there is a report if and only if one was asked for
 abbrev pub IsReport : (pages : ℕ) → List Row → Option ReportArguments → Type 0
-IsReport pages rows None = all_of (codes "signature") rows ≡ None
+IsReport pages rows None =
+    (all_of (codes "signature") rows ≡ None) × (first_of (codes "coverage") rows ≡ None)
 IsReport pages rows (Some r) = IsReportTo pages rows r.file.now r.report
 
 -- a guest, its input, its turns, what the status tells, what is looked at while it runs, and what is reported of it
@@ -157,6 +162,12 @@ pub record IsReplay (rows : List Row) (asked : ReplayArguments) : Type 0 where
   pub journal : first_of (codes "journal") rows ≡ Some asked.journal.now
   pub image : first_of (codes "image") rows ≡ option_map (λ s. s.now) asked.image
 
+-- the journals of a world's hosts, the image of the guest that moves between them, and whether the order is written
+pub record IsAuditJournals (rows : List Row) (asked : AuditJournalsArguments) : Type 0 where
+  pub journals : all_of (codes "journal") rows ≡ Some (map (λ s. s.now) asked.journals.items)
+  pub image : first_of (codes "image") rows ≡ Some asked.image.now
+  pub order : IsFlag (one_of (codes "order") rows) asked.order
+
 -- what the words of a command with this name ask for
 abbrev pub Gives : Text → List Row → Arguments → Type 0
 Gives name rows (Run run) = (name ≡ codes "run") × IsRun rows run
@@ -167,6 +178,7 @@ Gives name rows (Audit asked) = (name ≡ codes "audit") × IsMove rows asked
 Gives name rows (Host host) = (name ≡ codes "host") × IsHost rows host
 Gives name rows (Tell tell) = (name ≡ codes "tell") × IsTell rows tell
 Gives name rows (Replay asked) = (name ≡ codes "replay") × IsReplay rows asked
+Gives name rows (AuditJournals asked) = (name ≡ codes "audit-journals") × IsAuditJournals rows asked
 Gives name rows (Asm asm) =
     (name ≡ codes "asm") × (first_of (codes "source") rows ≡ Some asm.source.now)
     × (first_of (codes "output") rows ≡ Some asm.output.now)
@@ -178,3 +190,8 @@ Gives name rows (Dis dis) =
 abbrev pub IsAsked : Option (Text × List Row) → Arguments → Type 0
 IsAsked None arguments = ⊥
 IsAsked (Some command) arguments = Gives command.0 command.1 arguments
+
+-- whether the command that was named is given `--explain`
+abbrev pub IsExplained : Option (Text × List Row) → Bool → Type 0
+IsExplained None explain = explain ≡ false
+IsExplained (Some command) explain = IsFlag (one_of (codes "explain") command.1) explain

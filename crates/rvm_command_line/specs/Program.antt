@@ -2,6 +2,7 @@
 use Rattle.std.specs.Prelude.{ℕ, true, List, [], ◌∷◌, Some, pos, codes}
 use Rattle.clap.specs.Faults.{fault_of}
 use Rattle.clap.specs.Kinds.{Kinds, or_else}
+use Rattle.clap.specs.Lexer.{usize_max}
 use Rattle.clap.specs.Simple.{App, new_app, new_rule, on_top, with_rule, with_subcommand}
 use Rattle.clap.specs.Walk.{Rule, Text}
 use Rattle.clap.specs.declared.builder.action.ArgAction.TheVariants.{SetTrue}
@@ -92,7 +93,7 @@ signature = record (new_rule (codes "signature")) { long = Some (codes "signatur
 
 -- a command that takes the words of a report
 abbrev pub with_report : App → App
-with_report command = with_rule command signature
+with_report command = with_rule (with_rule command signature) (option (codes "coverage"))
 
 -- a command that takes the words that say what is looked at while the guest runs
 abbrev pub with_watch : App → App
@@ -172,23 +173,45 @@ tell = with_rule (with_rule (new_app (codes "tell")) (needed (codes "socket"))) 
 abbrev pub replay : App
 replay = with_rule (with_rule (new_app (codes "replay")) (needed (codes "journal"))) (option (codes "image"))
 
+-- one or more words, as many as there are
+abbrev pub several : Text → Rule
+several id = record (needed id) { range = Some (record { start_inclusive = 1; end_inclusive = usize_max }) }
+
+-- the command that looks for one order of what the journals of a world's hosts tell
+abbrev pub audit_journals : App
+audit_journals =
+    with_rule
+    (with_rule
+    (with_rule (new_app (codes "audit-journals")) (several (codes "journal")))
+    (needed_option (codes "image")))
+    (flag (codes "order"))
+
 -- the program without its commands, which demands that one is named
 abbrev pub top : App
 top =
     on_top (λ s. record s { has_version = true; arg_required_else_help = true; subcommand_required = true })
     (new_app (codes "rvmove"))
 
+-- a command that takes the word by which its refusal is explained
+abbrev pub with_explain : App → App
+with_explain command = with_rule command (flag (codes "explain"))
+
+-- a program with one more command, whose refusal can be explained
+abbrev pub with_command : App → App → App
+with_command others command = with_subcommand others (with_explain command).top
+
 -- the program with all its commands
 abbrev pub program : App
 program =
-    with_subcommand
-    (with_subcommand
-    (with_subcommand
-    (with_subcommand
-    (with_subcommand
-    (with_subcommand
-    (with_subcommand (with_subcommand (with_subcommand (with_subcommand top run.top) asm.top) dis.top)
-    debug.top) script.top) move.top) audit.top) host.top) tell.top) replay.top
+    with_command
+    (with_command
+    (with_command
+    (with_command
+    (with_command
+    (with_command
+    (with_command
+    (with_command (with_command (with_command (with_command top run) asm) dis) debug) script) move) audit) host)
+    tell) replay) audit_journals
 
 -- the kinds of which the fault of a command line may be: those that `clap` finds in its words, or else a value that
 -- `clap` takes and the program refuses

@@ -2,12 +2,12 @@
 
 ghost use Rattle.std.specs.Prelude.{◌≡◌, false, codes, IfErr, IfOk};
 ghost use Rattle.std.specs.Result.{IsOkAnd};
-ghost use Rattle.clap.specs.Simple.{app_of, with_subcommand};
+ghost use Rattle.clap.specs.Simple.{app_of};
 ghost use Rattle.clap.specs.Walk.{rule_of};
 ghost use Rattle.clap.specs.Words.{kind_of};
 ghost use Rattle.clap.specs.declared.builder.command.Command.TheViews.{out-Command as fields_of};
 ghost use Rattle.clap.specs.declared.error.kind.ErrorKind.TheVariants as kind;
-ghost use Rattle.rvm_command_line.specs.Program.{allowed, asm, audit, bounded, debug, dis, flag, host, move, needed, needed_option, number, option, program, replay, run, script, signature, tell, top, with_addresses, with_board, with_default, with_guest, with_hosting, with_journal, with_move, with_name, with_policy, with_report, with_status, with_trace, with_turns, with_verdict, with_watch, with_world};
+ghost use Rattle.rvm_command_line.specs.Program.{allowed, asm, audit, audit_journals, bounded, debug, dis, flag, host, move, needed, needed_option, number, option, program, replay, run, script, several, signature, tell, top, with_addresses, with_board, with_command, with_default, with_explain, with_guest, with_hosting, with_journal, with_move, with_name, with_policy, with_report, with_status, with_trace, with_turns, with_verdict, with_watch, with_world};
 
 use clap::builder::ValueParser;
 use clap::{Arg, ArgAction, Command, Error};
@@ -30,6 +30,8 @@ With --stop-at-fault the run ends at the first trap whose handler cannot run, an
 With --trace the file has a line for each step: its turn, its hart, the instruction and what it wrote.
 With --signature the file has, after the last turn, eight hexadecimal digits a line for each word of RAM from
 ADDR on. ADDR and LEN are decimal, or hexadecimal after 0x, and multiples of 4; all words must lie in RAM.
+With --coverage the file has, after the last turn, the lines of `rvmove dis`, each after the number of steps that
+ran its instruction. --signature and --coverage exclude each other.
 
 The status:      halted 0  halted S  steps spent  fault  refused
                  0         0         0            0      1
@@ -143,34 +145,81 @@ JOURNAL is what `rvmove host --journal` wrote. The host is made anew, and does a
 standard output has what the guest sent while it was there, standard error `replayed N events`. A line that
 was changed is told, and ends the replay. A host that began without a guest has no IMAGE.";
 
+/// The text below the help of `audit-journals`.
+const AUDIT_JOURNALS_HELP: &str = "\
+Example: rvmove audit-journals a.journal b.journal --image hello.elf
+
+Each JOURNAL is what `rvmove host --journal` wrote, 1 to 8 of them, each of another host of one world. A host
+whose journal is not given has done nothing. The hosts are made anew and do again what their journals tell;
+then one order of all events is looked for, in which each frame that came had been sent before.
+Standard output has a line for each host and one for all; with --order it has the events in that order, as a
+script that `rvmove script` takes.
+
+The status is 0 if there is such an order, 1 if there is none or if a journal is refused, and 2 for a fault
+of the command line.";
+
 /// The command line that the program takes. Fails only if memory runs out.
 pub(crate) fn program<'a>(alloc: Global) -> Result<Command<'a>, Error>
     ensures app { IfOk result (λ c. app_of c ≡ program) }
     ensures memory { IfErr result (λ e. kind_of e ≡ kind.OutOfMemory) }
 {
-    let program = with_command(bare_program(alloc), run_command(alloc))?;
-    let program = with_command(program, asm_command(alloc))?;
-    let program = with_command(program, dis_command(alloc))?;
-    let program = with_command(program, debug_command(alloc))?;
-    let program = with_command(program, script_command(alloc))?;
-    let program = with_command(program, move_command(alloc))?;
-    let program = with_command(program, audit_command(alloc))?;
-    let program = with_command(program, host_command(alloc))?;
-    let program = with_command(program, tell_command(alloc))?;
-    with_command(program, replay_command(alloc))
+    let program = with_command(alloc, bare_program(alloc), run_command(alloc))?;
+    let program = with_command(alloc, program, asm_command(alloc))?;
+    let program = with_command(alloc, program, dis_command(alloc))?;
+    let program = with_command(alloc, program, debug_command(alloc))?;
+    let program = with_command(alloc, program, script_command(alloc))?;
+    let program = with_command(alloc, program, move_command(alloc))?;
+    let program = with_command(alloc, program, audit_command(alloc))?;
+    let program = with_command(alloc, program, host_command(alloc))?;
+    let program = with_command(alloc, program, tell_command(alloc))?;
+    let program = with_command(alloc, program, replay_command(alloc))?;
+    with_command(alloc, program, audit_journals_command(alloc))
 }
 
-/// The program with one more command, if that command was made. Fails only if it was not, or if memory runs out.
+/// The program with one more command, if that command was made; the command also takes `--explain`. Fails only if the
+/// command was not made, or if memory runs out.
 fn with_command<'a>(
+    alloc: Global,
     program: Command<'a>,
     command: Result<Command<'a>, Error>,
 ) -> Result<Command<'a>, Error>
     ensures app { IfOk result (λ c. IsOkAnd command.entry (λ m. (fields_of m).has_globals ≡ false
-        → app_of c ≡ with_subcommand (app_of program.entry) (app_of m).top)) }
+        → app_of c ≡ with_command (app_of program.entry) (app_of m))) }
     ensures memory { IfErr command.entry (λ e. kind_of e ≡ kind.OutOfMemory)
         → IfErr result (λ e. kind_of e ≡ kind.OutOfMemory) }
 {
-    Ok(program.subcommand(command?)?)
+    Ok(program.subcommand(explained(alloc, command)?)?)
+}
+
+/// A command, if it was made, with the flag by which its refusal is explained. Fails only if the command was not made,
+/// or if memory runs out.
+fn explained<'a>(alloc: Global, command: Result<Command<'a>, Error>) -> Result<Command<'a>, Error>
+    ensures app { IfOk result (λ c. IsOkAnd command.entry (λ m. app_of c ≡ with_explain (app_of m))) }
+    ensures local { IfOk result (λ c. IsOkAnd command.entry (λ m. (fields_of m).has_globals ≡ false
+        → (fields_of c).has_globals ≡ false)) }
+    ensures memory { IfErr command.entry (λ e. kind_of e ≡ kind.OutOfMemory)
+        → IfErr result (λ e. kind_of e ≡ kind.OutOfMemory) }
+{
+    explained_command(command?, alloc)
+}
+
+/// Adds to a command the flag by which its refusal is explained.
+fn explained_command<'a>(command: Command<'a>, alloc: Global) -> Result<Command<'a>, Error>
+    ensures app { IfOk result (λ c. app_of c ≡ with_explain (app_of command.entry)) }
+    ensures local { (fields_of command.entry).has_globals ≡ false
+        → IfOk result (λ c. (fields_of c).has_globals ≡ false) }
+    ensures memory { IfErr result (λ e. kind_of e ≡ kind.OutOfMemory) }
+{
+    Ok(command.arg(explain_flag(alloc))?)
+}
+
+/// The flag `--explain`: whether a refusal is explained.
+fn explain_flag<'a>(alloc: Global) -> Arg<'a>
+    ensures rule { rule_of result ≡ flag (codes "explain") }
+    ensures local { result.global ≡ false }
+{
+    let help = "Says after a refusal where its cause lies, what it is, and what to do";
+    flag(alloc, "explain", help)
 }
 
 /// The program without its commands. It demands that a command is named.
@@ -198,6 +247,14 @@ fn needed<'a>(alloc: Global, id: &'a str, value: &'a str, help: &'a str) -> Arg<
     ensures local { result.global ≡ false }
 {
     allowed(alloc, id, value, help).required(true)
+}
+
+/// One or more words with this name, as many as there are. Help calls each `value`.
+fn several<'a>(alloc: Global, id: &'a str, value: &'a str, help: &'a str) -> Arg<'a>
+    ensures rule { rule_of result ≡ several id.now }
+    ensures local { result.global ≡ false }
+{
+    needed(alloc, id, value, help).num_args(1usize..)
 }
 
 /// A flag, `--name`.
@@ -489,7 +546,20 @@ fn report_command<'a>(command: Command<'a>, alloc: Global) -> Result<Command<'a>
         → IfOk result (λ c. (fields_of c).has_globals ≡ false) }
     ensures memory { IfErr result (λ e. kind_of e ≡ kind.OutOfMemory) }
 {
-    Ok(command.arg(signature_option(alloc))?)
+    Ok(
+        command
+            .arg(signature_option(alloc))?
+            .arg(coverage_option(alloc))?,
+    )
+}
+
+/// The option `--coverage`: the file that gets how often each word of the image ran.
+fn coverage_option<'a>(alloc: Global) -> Arg<'a>
+    ensures rule { rule_of result ≡ option (codes "coverage") }
+    ensures local { result.global ≡ false }
+{
+    let help = "The file that gets the lines of dis, each after how often it ran, at the end";
+    option(alloc, "coverage", "FILE", help)
 }
 
 /// The option `--signature`: a file, and the words of RAM that it gets once the run has ended.
@@ -829,4 +899,47 @@ fn replay_command<'a>(alloc: Global) -> Result<Command<'a>, Error>
                 "The image of the guest with which the host began",
             ))?,
     )
+}
+
+/// The command `audit-journals`, with the words that it takes.
+fn audit_journals_command<'a>(alloc: Global) -> Result<Command<'a>, Error>
+    ensures app { IfOk result (λ c. app_of c ≡ audit_journals) }
+    ensures local { IfOk result (λ c. (fields_of c).has_globals ≡ false) }
+    ensures memory { IfErr result (λ e. kind_of e ≡ kind.OutOfMemory) }
+{
+    Ok(
+        Command::new(alloc, "audit-journals")
+            .about("Looks for one order of what the journals of a world's hosts tell")
+            .after_help(AUDIT_JOURNALS_HELP)
+            .arg(journals_argument(alloc))?
+            .arg(journals_image_option(alloc))?
+            .arg(order_flag(alloc))?,
+    )
+}
+
+/// The words of `audit-journals` that name the files of journals.
+fn journals_argument<'a>(alloc: Global) -> Arg<'a>
+    ensures rule { rule_of result ≡ several (codes "journal") }
+    ensures local { result.global ≡ false }
+{
+    let help = "The files of the journals, 1 to 8, each of another host";
+    several(alloc, "journal", "JOURNAL", help)
+}
+
+/// The option `--image` of `audit-journals`: the image of the guest that moves between the hosts.
+fn journals_image_option<'a>(alloc: Global) -> Arg<'a>
+    ensures rule { rule_of result ≡ needed_option (codes "image") }
+    ensures local { result.global ≡ false }
+{
+    let help = "The image of the guest that moves between the hosts";
+    needed_option(alloc, "image", "IMAGE", help)
+}
+
+/// The flag `--order`: whether the events are written in their order.
+fn order_flag<'a>(alloc: Global) -> Arg<'a>
+    ensures rule { rule_of result ≡ flag (codes "order") }
+    ensures local { result.global ≡ false }
+{
+    let help = "Writes the events in their order, in place of a line for each host";
+    flag(alloc, "order", help)
 }

@@ -8,17 +8,18 @@ ghost use Rattle.clap.specs.Simple.{app_of, subcommand_of, subcommand_rows_of};
 ghost use Rattle.clap.specs.Walk.{all_of, first_of, one_of, rows_of};
 ghost use Rattle.clap.specs.Words.{kind_of};
 ghost use Rattle.clap.specs.declared.error.kind.ErrorKind.TheVariants as kind;
-ghost use Rattle.rvm_command_line.specs.Given.{Gives, IsAsked, IsFlag, IsGuest, IsHost, IsInRam, IsMove, IsNumber, IsNumberOr, IsOptionalGuest, IsOptionalNumber, IsReplay, IsReport, IsStatusOf, IsTell, IsTrace};
+ghost use Rattle.rvm_command_line.specs.Given.{Gives, IsAsked, IsAuditJournals, IsExplained, IsFlag, IsGuest, IsHost, IsInRam, IsMove, IsNumber, IsNumberOr, IsOptionalGuest, IsOptionalNumber, IsReplay, IsReport, IsSignature, IsStatusOf, IsTell, IsTrace};
 ghost use Rattle.rvm_text.specs.Numbers.{number_of};
 ghost use Rattle.rvm_command_line.specs.Program.{faults_of, program};
 
 use crate::program::program;
+use arrayvec::ArrayVec;
 use clap::error::ErrorKind;
 use clap::{ArgMatches, Command, Error};
 use rvm_arguments::{
-    Arguments, AsmArguments, DebugArguments, DisArguments, GuestArguments, HostArguments,
-    MoveArguments, ReplayArguments, Report, ReportArguments, RunArguments, ScriptArguments,
-    StatusOf, TellArguments, TraceArguments, WordRange,
+    Arguments, AsmArguments, AuditJournalsArguments, CommandLine, DebugArguments, DisArguments,
+    GuestArguments, HostArguments, MoveArguments, ReplayArguments, Report, ReportArguments,
+    RunArguments, ScriptArguments, StatusOf, TellArguments, TraceArguments, WordRange,
 };
 use rvm_mem::{MAX_PAGES, PAGE_SIZE};
 use rvm_text::number as spelled;
@@ -58,11 +59,13 @@ const MAX_PATIENCE: u32 = 1_000_000_000;
 /// The most turns that a guest makes in a second.
 const MAX_RATE: u32 = 1_000_000_000;
 
-/// Reads the words of a command line. The first word is the program's name. The error has `clap`'s text, and its
-/// `exit_code` is the status of the program. It also stands for a command line that asks for help or for the version.
-pub fn parse_args<'a, S: AsStr>(alloc: Global, words: &'a [S]) -> Result<Arguments<'a>, Error>
-    ensures asked { IfOk result (IsAsked (subcommand_of program (map S.text words.now))) }
-    ensures taken { IfOk result (λ a. fault_of program (map S.text words.now) ≡ []) }
+/// Reads the words of a command line: the command that they ask for, with its arguments, and whether its refusal is
+/// explained. The first word is the program's name. The error has `clap`'s text, and its `exit_code` is the status of
+/// the program. It also stands for a command line that asks for help or for the version.
+pub fn parse_args<'a, S: AsStr>(alloc: Global, words: &'a [S]) -> Result<CommandLine<'a>, Error>
+    ensures asked { IfOk result (λ l. IsAsked (subcommand_of program (map S.text words.now)) l.arguments) }
+    ensures explained { IfOk result (λ l. IsExplained (subcommand_of program (map S.text words.now)) l.explain) }
+    ensures taken { IfOk result (λ l. fault_of program (map S.text words.now) ≡ []) }
     ensures fault { IfErr result (HasKind (faults_of (map S.text words.now))) }
 {
     let mut command = program(alloc)?;
@@ -94,16 +97,39 @@ fn refuse_word(alloc: Global, place: usize) -> Result<Error, Error>
 fn read_words<'a, S: AsStr>(
     command: &mut Command<'a>,
     words: &'a [S],
-) -> Result<Arguments<'a>, Error>
+) -> Result<CommandLine<'a>, Error>
     requires { app_of command.old ≡ program }
-    ensures asked { IfOk result (IsAsked (subcommand_of program (map S.text words.now))) }
-    ensures taken { IfOk result (λ a. fault_of program (map S.text words.now) ≡ []) }
+    ensures asked { IfOk result (λ l. IsAsked (subcommand_of program (map S.text words.now)) l.arguments) }
+    ensures explained { IfOk result (λ l. IsExplained (subcommand_of program (map S.text words.now)) l.explain) }
+    ensures taken { IfOk result (λ l. fault_of program (map S.text words.now) ≡ []) }
     ensures fault { IfErr result (HasKind (faults_of (map S.text words.now))) }
 {
     let matches = command.try_get_matches_from_mut(words)?;
-    match read_matches(&matches) {
-        Ok(arguments) => Ok(arguments),
+    match read_line(&matches) {
+        Ok(line) => Ok(line),
         Err(fault) => Err(command.error(ErrorKind::ValueValidation, fault)?),
+    }
+}
+
+/// The command that was named, and whether its refusal is explained. Fails with a text that says which argument is not
+/// what it must be.
+fn read_line<'a>(matches: &ArgMatches<'a>) -> Result<CommandLine<'a>, &'static str>
+    ensures asked { IfOk result (λ l. IsAsked (subcommand_rows_of matches.now) l.arguments) }
+    ensures explained { IfOk result (λ l. IsExplained (subcommand_rows_of matches.now) l.explain) }
+{
+    Ok(CommandLine {
+        arguments: read_matches(matches)?,
+        explain: read_explain(matches),
+    })
+}
+
+/// Whether the command that was named is given `--explain`.
+fn read_explain(matches: &ArgMatches) -> bool
+    ensures { IsExplained (subcommand_rows_of matches.now) result }
+{
+    match matches.subcommand() {
+        Some((_name, command)) => flag(command, "explain"),
+        None => false,
     }
 }
 
@@ -122,6 +148,9 @@ fn read_matches<'a>(matches: &ArgMatches<'a>) -> Result<Arguments<'a>, &'static 
         Some(("host", host)) => Ok(Arguments::Host(read_host(host)?)),
         Some(("tell", tell)) => Ok(Arguments::Tell(read_tell(tell)?)),
         Some(("replay", replay)) => Ok(Arguments::Replay(read_replay(replay)?)),
+        Some(("audit-journals", words)) => {
+            Ok(Arguments::AuditJournals(read_audit_journals(words)?))
+        }
         _ => Err("a command is missing"),
     }
 }
@@ -148,16 +177,40 @@ fn read_run<'a>(run: &ArgMatches<'a>) -> Result<Arguments<'a>, &'static str>
 }
 
 /// What is reported of a run with this many pages of RAM. Fails with a text if a word of a report is not what it must
-/// be, or if its file is one that the run reads or that gets its trace.
+/// be, if its file is one that the run reads or that gets its trace, or if two reports are asked for.
 fn read_report<'a>(
     run: &ArgMatches<'a>,
     pages: u32,
 ) -> Result<Option<ReportArguments<'a>>, &'static str>
     ensures { IfOk result (IsReport pages (rows_of (found_of run.now))) }
 {
-    let Some(words) = texts(run, "signature") else {
-        return Ok(None);
-    };
+    match (texts(run, "signature"), text(run, "coverage")) {
+        (None, None) => Ok(None),
+        (Some(words), None) => {
+            let (file, range) = read_signature(run, words, pages)?;
+            let report = Report::Signature(range);
+            Ok(Some(ReportArguments { file, report }))
+        }
+        (None, Some(file)) => {
+            if is_taken(run, file) {
+                return Err("the file of --coverage is one that is read, or that of --trace");
+            }
+            let report = Report::Coverage;
+            Ok(Some(ReportArguments { file, report }))
+        }
+        (Some(_), Some(_)) => Err("--signature and --coverage exclude each other"),
+    }
+}
+
+/// The file of a signature, and its words, of a run with this many pages of RAM. Fails with a text if one of its three
+/// values is not what it must be.
+fn read_signature<'a>(
+    run: &ArgMatches<'a>,
+    words: &[&'a str],
+    pages: u32,
+) -> Result<(&'a str, WordRange), &'static str>
+    ensures { IfOk result (λ s. IsSignature pages (Some (map (λ w. w.now) words.now)) s.0.now s.1) }
+{
     let Some((file, from, length)) = three(words) else {
         return Err("--signature takes FILE, ADDR and LEN");
     };
@@ -169,8 +222,7 @@ fn read_report<'a>(
             "--signature takes ADDR and LEN in multiples of 4, LEN from 4 on, all of it in RAM",
         );
     };
-    let report = Report::Signature(range);
-    Ok(Some(ReportArguments { file, report }))
+    Ok((file, range))
 }
 
 /// Whether a file is named that the run reads, or that gets its trace.
@@ -476,6 +528,50 @@ fn read_replay<'a>(replay: &ArgMatches<'a>) -> Result<ReplayArguments<'a>, &'sta
         journal,
         image: text(replay, "image"),
     })
+}
+
+/// The arguments of `audit-journals`. Fails with a text that says which of them is not what it must be.
+fn read_audit_journals<'a>(
+    audit: &ArgMatches<'a>,
+) -> Result<AuditJournalsArguments<'a>, &'static str>
+    ensures { IfOk result (IsAuditJournals (rows_of (found_of audit.now))) }
+{
+    let Some(names) = texts(audit, "journal") else {
+        return Err("JOURNAL is missing");
+    };
+    let Some(image) = text(audit, "image") else {
+        return Err("--image is missing");
+    };
+    Ok(AuditJournalsArguments {
+        journals: read_journals(names)?,
+        image,
+        order: flag(audit, "order"),
+    })
+}
+
+/// The files of journals with these names. Fails with a text if there are more than 8, or if a file is named twice.
+fn read_journals<'a>(names: &[&'a str]) -> Result<ArrayVec<&'a str, 8>, &'static str>
+    ensures { IfOk result (λ journals. map (λ s. s.now) journals.items ≡ map (λ w. w.now) names.now) }
+{
+    if has_twice(names) {
+        return Err("two JOURNALs are the same file");
+    }
+    let mut journals = ArrayVec::new();
+    match journals.try_extend_from_slice(names) {
+        Ok(()) => Ok(journals),
+        Err(_) => Err("audit-journals takes 1 to 8 JOURNALs"),
+    }
+}
+
+/// Whether one of these names stands there twice.
+fn has_twice(names: &[&str]) -> bool {
+    for place in 0..names.len() {
+        let (before, name) = (&names[..place], names[place]);
+        if before.iter().any(|other| *other == name) {
+            return true;
+        }
+    }
+    false
 }
 
 /// The text of an option, as the words or its default give it, if they do.

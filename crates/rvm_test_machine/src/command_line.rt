@@ -8,7 +8,7 @@ use std::test::Fail;
 #[test]
 fn options_have_defaults(rt: HostRuntime) -> Result<(), Fail> {
     let words = ["rvmove", "run", "--raw", "guest.bin"];
-    match parse_args(rt.alloc(), &words)? {
+    match parse_args(rt.alloc(), &words)?.arguments {
         Arguments::Run(run) => {
             assert_numbers(&rt, &run, [1, 256, 1_000_000]);
             assert_eq!(rt; run.guest.image, "guest.bin");
@@ -34,7 +34,7 @@ fn options_reach_their_limits(rt: HostRuntime) -> Result<(), Fail> {
         "--input",
         "keys.txt",
     ];
-    match parse_args(rt.alloc(), &words)? {
+    match parse_args(rt.alloc(), &words)?.arguments {
         Arguments::Run(run) => {
             assert_numbers(&rt, &run, [8, 4096, 1_000_000_000]);
             assert!(rt; !run.guest.raw);
@@ -47,14 +47,14 @@ fn options_reach_their_limits(rt: HostRuntime) -> Result<(), Fail> {
 
 #[test]
 fn asm_and_dis_take_their_files(rt: HostRuntime) -> Result<(), Fail> {
-    match parse_args(rt.alloc(), &["rvmove", "asm", "hello.s", "hello.elf"])? {
+    match parse_args(rt.alloc(), &["rvmove", "asm", "hello.s", "hello.elf"])?.arguments {
         Arguments::Asm(asm) => {
             assert_eq!(rt; asm.source, "hello.s");
             assert_eq!(rt; asm.output, "hello.elf");
         }
         other => panic!(rt; "{other:?}"),
     }
-    match parse_args(rt.alloc(), &["rvmove", "dis", "--raw", "hello.bin"])? {
+    match parse_args(rt.alloc(), &["rvmove", "dis", "--raw", "hello.bin"])?.arguments {
         Arguments::Dis(dis) => {
             assert_eq!(rt; dis.image, "hello.bin");
             assert!(rt; dis.raw);
@@ -73,7 +73,9 @@ fn debug_takes_a_guest(rt: HostRuntime) -> Result<(), Fail> {
     match parse_args(
         rt.alloc(),
         &["rvmove", "debug", "hello.elf", "--pages", "7"],
-    )? {
+    )?
+    .arguments
+    {
         Arguments::Debug(debug) => {
             assert_eq!(rt; debug.guest.image, "hello.elf");
             assert_eq!(rt; [debug.guest.harts, debug.guest.pages], [1, 7]);
@@ -81,5 +83,50 @@ fn debug_takes_a_guest(rt: HostRuntime) -> Result<(), Fail> {
         }
         other => panic!(rt; "{other:?}"),
     }
+    Ok(())
+}
+
+#[test]
+fn a_refusal_is_explained_if_that_is_asked_for(rt: HostRuntime) -> Result<(), Fail> {
+    let plain = parse_args(rt.alloc(), &["rvmove", "tell", "./a.socket"])?;
+    assert!(rt; !plain.explain);
+    let explained = parse_args(rt.alloc(), &["rvmove", "tell", "./a.socket", "--explain"])?;
+    assert!(rt; explained.explain);
+    Ok(())
+}
+
+#[test]
+fn an_audit_takes_up_to_eight_journals(rt: HostRuntime) -> Result<(), Fail> {
+    let words = [
+        "rvmove",
+        "audit-journals",
+        "--image",
+        "i",
+        "a",
+        "b",
+        "c",
+        "d",
+        "e",
+        "f",
+        "g",
+        "h",
+        "j",
+    ];
+    match parse_args(rt.alloc(), &words[..12])?.arguments {
+        Arguments::AuditJournals(audit) => {
+            assert_eq!(rt; audit.journals.as_slice(), &words[4..12]);
+            assert_eq!(rt; audit.image, "i");
+            assert!(rt; !audit.order);
+        }
+        other => panic!(rt; "{other:?}"),
+    }
+    assert!(rt; parse_args(rt.alloc(), &words).is_err());
+    Ok(())
+}
+
+#[test]
+fn an_audit_takes_no_journal_twice(rt: HostRuntime) -> Result<(), Fail> {
+    let words = ["rvmove", "audit-journals", "a", "b", "a", "--image", "i"];
+    assert!(rt; parse_args(rt.alloc(), &words).is_err());
     Ok(())
 }

@@ -1,4 +1,4 @@
-use Rattle.rvm_command_line.specs.Program.{asm, audit, debug, dis, host, move, replay, run, script, tell}
+use Rattle.rvm_command_line.specs.Program.{asm, audit, audit_journals, debug, dis, host, move, replay, run, script, tell}
 use Rattle.rvm_command_line.proofs.Commands.{adds, adds_last}
 use Rattle.rvm_command_line.proofs.program.program.Goals as goal
 
@@ -14,7 +14,8 @@ returns-clause-app c =
     let seventh = adds audit _ c.in_ok-program-7.ensures.app sixth c.audit_command.ensures.app c.audit_command.ensures.local in
     let eighth = adds host _ c.in_ok-program-8.ensures.app seventh c.host_command.ensures.app c.host_command.ensures.local in
     let ninth = adds tell _ c.in_ok-program-9.ensures.app eighth c.tell_command.ensures.app c.tell_command.ensures.local in
-    adds_last replay _ _ c.with_command-10.ensures.app ninth c.replay_command.ensures.app c.replay_command.ensures.local
+    let tenth = adds replay _ c.in_ok-program-10.ensures.app ninth c.replay_command.ensures.app c.replay_command.ensures.local in
+    adds_last audit_journals _ _ c.with_command-11.ensures.app tenth c.audit_journals_command.ensures.app c.audit_journals_command.ensures.local
 
 pub returns-clause-memory : goal.returns-clause-memory
-returns-clause-memory c = c.with_command-10.ensures.memory c.replay_command.ensures.memory
+returns-clause-memory c = c.with_command-11.ensures.memory c.audit_journals_command.ensures.memory

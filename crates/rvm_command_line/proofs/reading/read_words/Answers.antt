@@ -1,12 +1,16 @@
 use Rattle.std.proofs.Common.{map, inl, inr}
 use Rattle.rvm_command_line.proofs.Faults.{found, handed_on, taken, valueless}
-use Rattle.rvm_command_line.proofs.Rows.{asked_of}
+use Rattle.rvm_command_line.proofs.Rows.{asked_of, explained_of}
 use Rattle.rvm_command_line.proofs.reading.read_words.Goals as goal
 
 -- src/reading.rt:52:1
 pub returns-in-Ok-clause-asked : goal.returns-in-Ok-clause-asked
 returns-in-Ok-clause-asked g c =
-    asked_of _ _ c.in_ok-matches.matches c.in-Ok.arguments c.in_ok-matches.ensures.ok.2 c.requires c.in-Ok.ensures
+    asked_of _ _ c.in_ok-matches.matches c.in-Ok.line.arguments c.in_ok-matches.ensures.ok.2 c.requires c.in-Ok.ensures.asked
+
+pub returns-in-Ok-clause-explained : goal.returns-in-Ok-clause-explained
+returns-in-Ok-clause-explained g c =
+    explained_of _ _ c.in_ok-matches.matches c.in-Ok.line.explain c.in_ok-matches.ensures.ok.2 c.requires c.in-Ok.ensures.explained
 
 pub returns-in-Ok-clause-taken : goal.returns-in-Ok-clause-taken
 returns-in-Ok-clause-taken g c = taken _ _ c.requires c.in_ok-matches.ensures.kinds
