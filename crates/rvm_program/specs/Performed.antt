@@ -1,5 +1,5 @@
 -- How a command line ended.
-use Rattle.std.specs.Prelude.{◌≡◌, ◌⊎◌, ⊤, ℕ, true, List, [], Option}
+use Rattle.std.specs.Prelude.{◌≡◌, ◌⊎◌, ⊤, ℕ, true, List, [], Option, Some}
 use Rattle.clap.specs.Faults.{fault_of}
 use Rattle.clap.specs.Kinds.{IsAmong}
 use Rattle.clap.specs.Simple.{subcommand_of}
@@ -7,12 +7,14 @@ use Rattle.clap.specs.Walk.{Text}
 use Rattle.clap.specs.declared.error.kind.ErrorKind.TheVariants as kind
 use Rattle.rvm_arguments.specs.declared.arguments.Arguments.{Arguments}
 use Rattle.rvm_arguments.specs.declared.arguments.Arguments.TheVariants.{Host, Move, Run, Tell}
+use Rattle.rvm_arguments.specs.declared.arguments.CommandLine.{CommandLine}
 use Rattle.rvm_arguments.specs.declared.arguments.StatusOf.{StatusOf}
 use Rattle.rvm_arguments.specs.declared.arguments.StatusOf.TheVariants.{Command, Verdict, Guest}
-use Rattle.rvm_command_line.specs.Given.{IsAsked}
+use Rattle.rvm_command_line.specs.Given.{IsAsked, IsExplained}
 use Rattle.rvm_command_line.specs.Program.{faults_of, program}
-use Rattle.rvm_program.specs.Ended.{HasEnded, IsUnbegun, IsUntold, Written}
+use Rattle.rvm_program.specs.Ended.{HasEnded, IsUnbegun, IsUntold, Written, written}
 use Rattle.rvm_program.specs.Files.{Named}
+use Rattle.rvm_program.specs.Reports.{GoesOut}
 
 -- words have no fault for `clap`, and this holds of what they ask for
 pub record AskFor (words : List Text) (Holds : Arguments → Type 0) : Type 0 where
@@ -74,6 +76,69 @@ IsPassingOn other = ⊥
 -- words ask for a run with the status of its guest
 abbrev pub ArePassingOn : (words : List Text) → Type 0
 ArePassingOn words = AskFor words (λ a. IsPassingOn a)
+
+-- words ask for their refusal to be explained
+abbrev pub AreExplained : (words : List Text) → Type 0
+AreExplained words = IsExplained (subcommand_of program words) true
+
+-- a command with a status other than 1 reported to a buffer, and its report went to the errors
+pub record IsReported (Ends : (errors : Written) → Type 0) (errors : Written) : Type 0 where
+  pub report : List ℕ
+  pub ended : Ends (written (Some []) (Some report))
+  pub out : GoesOut report errors.before errors.after
+
+-- a command with the status 1 reported to a buffer. Its report goes to the errors, and then what explains it; it is not
+-- known how much of both was written
+pub record IsExplainedSo (Fails : (errors : Written) → Type 0) : Type 0 where
+  pub report : List ℕ
+  pub failed : Fails (written (Some []) (Some report))
+
+-- a command has ended with this status, and reported so itself, or to a buffer
+abbrev pub HasEndedEither : (files created : Named) → Arguments → (status : ℕ) → (script : Option (List ℕ))
+    → (output errors : Written) → Type 0
+HasEndedEither files created a status script output errors =
+    HasEnded files created a status script output errors
+    ⊎ IsReported (λ told. HasEnded files created a status script output told) errors
+
+-- and one with the status 1
+abbrev pub HasFailedEither : (files created : Named) → Arguments → (script : Option (List ℕ))
+    → (output errors : Written) → Type 0
+HasFailedEither files created a script output errors =
+    HasFailed files created a script output errors
+    ⊎ IsExplainedSo (λ told. HasFailed files created a script output told)
+
+-- a command line has ended with this status; to a buffer it reported only if its refusal was to be explained
+abbrev pub HasEndedSo : (files created : Named) → CommandLine → (status : ℕ) → (script : Option (List ℕ))
+    → (output errors : Written) → Type 0
+HasEndedSo files created line status script output errors =
+    HasEnded files created line.arguments status script output errors
+    ⊎ ((line.explain ≡ true)
+    × IsReported (λ told. HasEnded files created line.arguments status script output told) errors)
+
+-- and one with the status 1
+abbrev pub HasFailedSo : (files created : Named) → CommandLine → (script : Option (List ℕ))
+    → (output errors : Written) → Type 0
+HasFailedSo files created line script output errors =
+    HasFailed files created line.arguments script output errors
+    ⊎ ((line.explain ≡ true) × IsExplainedSo (λ told. HasFailed files created line.arguments script output told))
+
+-- words ask for this of their command; or, with an explanation of its refusal, for the other
+abbrev pub AskForEither : (words : List Text) → (Plain Explained : Arguments → Type 0) → Type 0
+AskForEither words Plain Explained = AskFor words Plain ⊎ (AreExplained words × AskFor words Explained)
+
+-- what words ask for has ended with this status, perhaps with an explanation of its refusal
+abbrev pub IsEndedSo : (files created : Named) → (words : List Text) → (status : ℕ) → (script : Option (List ℕ))
+    → (output errors : Written) → Type 0
+IsEndedSo files created words status script output errors =
+    AskForEither words (λ a. HasEnded files created a status script output errors)
+    (λ a. IsReported (λ told. HasEnded files created a status script output told) errors)
+
+-- what words ask for failed so, perhaps with an explanation of its refusal
+abbrev pub IsRefusedSo : (files created : Named) → (words : List Text) → (script : Option (List ℕ))
+    → (output errors : Written) → Type 0
+IsRefusedSo files created words script output errors =
+    AskForEither words (λ a. HasFailed files created a script output errors)
+    (λ a. IsExplainedSo (λ told. HasFailed files created a script output told))
 
 -- words may ask for help
 abbrev pub AskHelp : (words : List Text) → Type 0

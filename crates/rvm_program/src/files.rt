@@ -6,12 +6,13 @@ ghost use Rattle.std.specs.declared.io.ErrorKind.TheVariants as kind;
 ghost use Rattle.rvm_program.specs.Files.{IsApart, IsCreated, IsFile, IsFileRefusal, IsFirst, IsLong, IsOpened, max_size};
 ghost use Rattle.rvm_refusal.specs.declared.refusal.Refusal.TheVariants as refusal;
 
+use crate::file_fault::FileFault;
 use rvm_refusal::Refusal;
 use std::alloc::Global;
-use std::fs;
-use std::fs::File;
+use std::fs::{File, OpenOptions};
 use std::io::{Error, ErrorKind, Read, Write};
 use std::rt::Files;
+use std::{fs, io};
 
 /// The most bytes of a file that is read as a whole: an assembly text, an ELF file, the bytes for a console, and each
 /// file of `host`. The limit of a script is its own, and is the same.
@@ -45,6 +46,21 @@ pub trait NamedFiles {
         ensures bytes { IfSome result (λ file. IsOpened (bytes_of self.now path.now) (Self.Opened.remaining file)) }
         ensures none { IsNone result → bytes_of self.now path.now ≡ None };
 
+    /// Why the file with a name cannot be opened for reading, if the system says so now. Devices, pipes and terminals are
+    /// not opened.
+    fn read_fault(&self, path: &str) -> Option<FileFault>
+        ensures some { IfSome result (λ fault. bytes_of self.now path.now ≡ None) };
+
+    /// Why the file with a name cannot be opened for writing, if the system says so now. Devices, pipes and terminals are
+    /// not opened. A file that is there keeps its bytes; one that is not there is not made.
+    fn write_fault(&self, path: &str) -> Option<FileFault>
+        ensures some { IfSome result (λ fault. created_of self.now path.now ≡ None) };
+
+    /// Why a file with a name cannot be made, if the system says so now. If it can be made, it is there, and is empty. A
+    /// file that is there stays as it is.
+    fn make_fault(&self, path: &str) -> Option<FileFault>
+        ensures some { IfSome result (λ fault. created_of self.now path.now ≡ None) };
+
     /// Creates or empties the file with a name, to write it. `OutOfMemory` if memory runs out, else `LinkFault`.
     fn create(&self, path: &str) -> Result<Self::Created, Refusal>
         ensures named { IfOk result (λ file. IsCreated (created_of self.now path.now) (Self.Created.contents file)) }
@@ -73,8 +89,66 @@ impl<'a, R: Files> NamedFiles for HostFiles<'a, R> {
         }
     }
 
+    fn read_fault(&self, path: &str) -> Option<FileFault> {
+        match fs::metadata(self.rt, path) {
+            Ok(metadata) if metadata.is_dir() => Some(FileFault::IsADirectory),
+            Ok(metadata) if metadata.is_file() => fault_of(File::open(self.rt, path)),
+            Ok(_) => None,
+            Err(error) => Some(FileFault::of(error.kind())),
+        }
+    }
+
+    fn write_fault(&self, path: &str) -> Option<FileFault> {
+        match fs::metadata(self.rt, path) {
+            Ok(metadata) if metadata.is_dir() => Some(FileFault::IsADirectory),
+            Ok(metadata) if metadata.is_file() => open_fault(self.rt, path),
+            Ok(_) => None,
+            Err(error) if error.kind() == ErrorKind::NotFound => directory_fault(self.rt, path),
+            Err(error) => Some(FileFault::of(error.kind())),
+        }
+    }
+
+    fn make_fault(&self, path: &str) -> Option<FileFault> {
+        match File::create_new(self.rt, path) {
+            Ok(_) => None,
+            Err(error) if error.kind() == ErrorKind::AlreadyExists => None,
+            Err(error) => Some(FileFault::of(error.kind())),
+        }
+    }
+
     fn create(&self, path: &str) -> Result<R::File, Refusal> {
         File::create(self.rt, path).map_err(refusal_of)
+    }
+}
+
+/// Why a file was not opened, if it was not.
+fn fault_of<T: Drop>(opened: io::Result<T>) -> Option<FileFault> {
+    match opened {
+        Ok(_) => None,
+        Err(error) => Some(FileFault::of(error.kind())),
+    }
+}
+
+/// Why a file that is there cannot be opened for writing, if it cannot. It keeps its bytes.
+fn open_fault<R: Files>(rt: &R, path: &str) -> Option<FileFault> {
+    fault_of(OpenOptions::new().write(true).open(rt, path))
+}
+
+/// Why a file that is not there cannot be made, if its directory is missing or is none.
+fn directory_fault<R: Files>(rt: &R, path: &str) -> Option<FileFault> {
+    match path.rsplit_once("/") {
+        Some((directory, _name)) if !directory.is_empty() => fault_of_directory(rt, directory),
+        _ => None,
+    }
+}
+
+/// What is wrong with the directory in which a file is to be made, if something is.
+fn fault_of_directory<R: Files>(rt: &R, directory: &str) -> Option<FileFault> {
+    match fs::metadata(rt, directory) {
+        Ok(metadata) if metadata.is_dir() => None,
+        Ok(_) => Some(FileFault::NotADirectory),
+        Err(error) if error.kind() == ErrorKind::NotFound => Some(FileFault::NoDirectory),
+        Err(error) => Some(FileFault::of(error.kind())),
     }
 }
 
@@ -127,7 +201,11 @@ pub(crate) fn read_beginning<F: NamedFiles>(
 
 /// The first `count` bytes that a reader gives, or all if it gives no more. `OutOfMemory` if memory runs out, and
 /// `LinkFault` if a read fails.
-fn read_first<R: Read>(alloc: Global, reader: &mut R, count: u64) -> Result<Vec<u8>, Refusal>
+pub(crate) fn read_first<R: Read>(
+    alloc: Global,
+    reader: &mut R,
+    count: u64,
+) -> Result<Vec<u8>, Refusal>
     ensures bytes { IfOk result (λ v. IsFirst (R.remaining reader.old) count v.items) }
     ensures refused { IfErr result IsFileRefusal }
 {

@@ -9,7 +9,7 @@ use rvm_refusal::Refusal;
 use std::alloc::Global;
 
 /// The most bytes of the file of an image: the size of RAM if it is plain bytes, else `MAX_FILE_SIZE`.
-fn image_limit(guest: &GuestArguments) -> u32
+pub(crate) fn image_limit(guest: &GuestArguments) -> u32
     ensures { result ≡ image_limit guest.now }
 {
     let pages = guest.pages;

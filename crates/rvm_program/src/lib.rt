@@ -4,30 +4,45 @@
 //! Stands on the commands and `clap`, and reaches files through the runtime or another `NamedFiles` alone,
 //! so that another program can call what `rvmove` does.
 //!
-//! To be read in this order: `perform`, `commands`, `journals`, `images`, `files`, `system`, `descriptors`, `words`.
+//! To be read in this order: `perform`, `commands`, `journals`, `images`, `files`; how a refusal is explained, `file_fault`, `headers`,
+//! `image_parts`, `line_fault`, `defect`, `found`, `refusal_report`, `finding`, `unfound`, `explaining`; `system`,
+//! `descriptors`, `words`.
 #![tactic(auto)]
 
 ghost use Rattle.std.specs.Prelude.{◌≡◌, ◌≢◌, ◌⊎◌, ◌<◌, None, IfErr, IfOk, OnErr, map};
 ghost use Rattle.clap.specs.Words.{kind_of};
 ghost use Rattle.clap.specs.declared.error.kind.ErrorKind.TheVariants as kind;
-ghost use Rattle.rvm_program.specs.Ended.{HasEnded, IsUnbegun, IsUntold, ToTell, written};
+ghost use Rattle.rvm_program.specs.Ended.{HasEnded, HostEnded, IsUnbegun, IsUntold, ToTell, written};
 ghost use Rattle.rvm_program.specs.Files.{IsUnread};
-ghost use Rattle.rvm_program.specs.Performed.{AreFaulty, AreJudged, ArePassingOn, AreTelling, HasFailed, IsEnded, IsJudged, IsPassingOn, IsRefused, IsShown, IsTelling};
+ghost use Rattle.rvm_program.specs.Performed.{AreFaulty, AreJudged, ArePassingOn, AreTelling, HasEndedEither, HasEndedSo, HasFailed, HasFailedEither, HasFailedSo, IsEndedSo, IsJudged, IsPassingOn, IsRefusedSo, IsShown, IsTelling};
 
 mod commands;
+mod defect;
 mod descriptors;
+mod explaining;
+mod file_fault;
 mod files;
+mod finding;
+mod found;
+mod headers;
+mod image_parts;
 mod images;
 mod journals;
+mod line_fault;
+mod refusal_report;
 mod system;
+mod unfound;
 mod words;
 
 use clap::Error;
 use commands::Told;
 pub use descriptors::{Descriptors, take_descriptors};
+use explaining::{explain_report, find_for_host, pass_on};
+pub use file_fault::FileFault;
 use files::HostFiles;
 pub use files::{MAX_FILE_SIZE, MAX_JOURNAL_SIZE, NamedFiles};
-use rvm_arguments::Arguments;
+use found::write_found;
+use rvm_arguments::{Arguments, CommandLine, HostArguments};
 use rvm_command::refused::{Refused, tell};
 use rvm_command_line::parse_args;
 use rvm_mem::PagedMemory;
@@ -42,6 +57,12 @@ pub use words::{WordsFault, take_words, tell_words_fault, texts};
 
 /// The status if a write to standard error failed, so that the report of how the command ended is missing.
 const UNTOLD: u8 = 1;
+
+/// The status of a command that was refused.
+const REFUSED: u8 = 1;
+
+/// The size in bytes of the buffer for the report of how a command ended. It grows if a report is longer.
+const REPORT_SIZE: usize = 256;
 
 /// Does what the words of a command line ask for. The first word is the program's name. Returns the status: 0 if it was
 /// done; 1 if it was refused, or if a write to `errors` failed, so that the report of how it ended is missing; 2 for a
@@ -71,17 +92,17 @@ where
     ensures status { 3 < result → AreJudged (map S.text words.now) }
     ensures lost { result ≡ 3 → AreTelling (map S.text words.now) ⊎ AreJudged (map S.text words.now) }
     ensures fault { result ≡ 2 → (O.contents output.new ≡ O.contents output.old) ⊎ (ArePassingOn (map S.text words.now)
-        × IsEnded (λ name. None) (λ name. None) (map S.text words.now) 2 (I.remaining input.old)
+        × IsEndedSo (λ name. None) (λ name. None) (map S.text words.now) 2 (I.remaining input.old)
         (written (O.contents output.old) (O.contents output.new))
         (written (E.contents errors.old) (E.contents errors.new))) }
     ensures done { result ≡ 0 → IsShown (map S.text words.now) (written (E.contents errors.old) (E.contents errors.new))
-        ⊎ IsEnded (λ name. None) (λ name. None) (map S.text words.now) 0 (I.remaining input.old)
+        ⊎ IsEndedSo (λ name. None) (λ name. None) (map S.text words.now) 0 (I.remaining input.old)
         (written (O.contents output.old) (O.contents output.new))
         (written (E.contents errors.old) (E.contents errors.new)) }
-    ensures others { 2 < result → IsEnded (λ name. None) (λ name. None) (map S.text words.now) result (I.remaining input.old)
+    ensures others { 2 < result → IsEndedSo (λ name. None) (λ name. None) (map S.text words.now) result (I.remaining input.old)
         (written (O.contents output.old) (O.contents output.new))
         (written (E.contents errors.old) (E.contents errors.new)) }
-    ensures refused { result ≡ 1 → IsRefused (λ name. None) (λ name. None) (map S.text words.now)
+    ensures refused { result ≡ 1 → IsRefusedSo (λ name. None) (λ name. None) (map S.text words.now)
         (I.remaining input.old) (written (O.contents output.old) (O.contents output.new))
         (written (E.contents errors.old) (E.contents errors.new)) }
     ensures faulty { AreFaulty (map S.text words.now) → result ≡ 2 }
@@ -113,27 +134,158 @@ where
     ensures status { 3 < result → AreJudged (map S.text words.now) }
     ensures lost { result ≡ 3 → AreTelling (map S.text words.now) ⊎ AreJudged (map S.text words.now) }
     ensures fault { result ≡ 2 → (O.contents output.new ≡ O.contents output.old) ⊎ (ArePassingOn (map S.text words.now)
-        × IsEnded (F.bytes_of files.now) (F.created_of files.now) (map S.text words.now) 2 (I.remaining input.old)
+        × IsEndedSo (F.bytes_of files.now) (F.created_of files.now) (map S.text words.now) 2 (I.remaining input.old)
         (written (O.contents output.old) (O.contents output.new))
         (written (E.contents errors.old) (E.contents errors.new))) }
     ensures done { result ≡ 0 → IsShown (map S.text words.now) (written (E.contents errors.old) (E.contents errors.new))
-        ⊎ IsEnded (F.bytes_of files.now) (F.created_of files.now) (map S.text words.now) 0 (I.remaining input.old)
+        ⊎ IsEndedSo (F.bytes_of files.now) (F.created_of files.now) (map S.text words.now) 0 (I.remaining input.old)
         (written (O.contents output.old) (O.contents output.new))
         (written (E.contents errors.old) (E.contents errors.new)) }
-    ensures others { 2 < result → IsEnded (F.bytes_of files.now) (F.created_of files.now) (map S.text words.now) result (I.remaining input.old)
+    ensures others { 2 < result → IsEndedSo (F.bytes_of files.now) (F.created_of files.now) (map S.text words.now) result (I.remaining input.old)
         (written (O.contents output.old) (O.contents output.new))
         (written (E.contents errors.old) (E.contents errors.new)) }
-    ensures refused { result ≡ 1 → IsRefused (F.bytes_of files.now) (F.created_of files.now) (map S.text words.now)
+    ensures refused { result ≡ 1 → IsRefusedSo (F.bytes_of files.now) (F.created_of files.now) (map S.text words.now)
         (I.remaining input.old) (written (O.contents output.old) (O.contents output.new))
         (written (E.contents errors.old) (E.contents errors.new)) }
     ensures faulty { AreFaulty (map S.text words.now) → result ≡ 2 }
 {
     match parse_args(rt.alloc(), words) {
-        Ok(arguments) => do_command::<M, Rt, F, I, O, E>(
-            rt, files, &arguments, input, output, errors,
-        ),
+        Ok(line) => do_line::<M, Rt, F, I, O, E>(rt, files, &line, input, output, errors),
         Err(error) => explain(&error, output, errors),
     }
+}
+
+/// Does what a command line asks for, and explains its refusal if that is asked for.
+fn do_line<
+    M: PagedMemory + Drop + Send + 'static,
+    Rt: System + Net + Threads + Wait + 'static,
+    F: NamedFiles,
+    I: Read,
+    O: Write,
+    E: Write,
+>(rt: &Rt, files: &F, line: &CommandLine, input: &mut I, output: &mut O, errors: &mut E) -> u8
+where
+    Rt::Stream: Send,
+    Rt::Listener: Send + Sync,
+    Rt::File: Send,
+    ensures status { 3 < result → IsJudged line.now.arguments }
+    ensures lost { result ≡ 3 → IsTelling line.now.arguments ⊎ IsJudged line.now.arguments }
+    ensures passed { result ≡ 2 → IsPassingOn line.now.arguments }
+    ensures others { 1 < result → HasEndedSo (F.bytes_of files.now) (F.created_of files.now) line.now result (I.remaining input.old)
+        (written (O.contents output.old) (O.contents output.new))
+        (written (E.contents errors.old) (E.contents errors.new)) }
+    ensures done { result ≡ 0 → HasEndedSo (F.bytes_of files.now) (F.created_of files.now) line.now 0 (I.remaining input.old)
+        (written (O.contents output.old) (O.contents output.new))
+        (written (E.contents errors.old) (E.contents errors.new)) }
+    ensures refused { result ≡ 1 → HasFailedSo (F.bytes_of files.now) (F.created_of files.now) line.now
+        (I.remaining input.old) (written (O.contents output.old) (O.contents output.new))
+        (written (E.contents errors.old) (E.contents errors.new)) }
+{
+    let arguments = &line.arguments;
+    if !line.explain {
+        return do_command::<M, Rt, F, I, O, E>(rt, files, arguments, input, output, errors);
+    }
+    match arguments {
+        Arguments::Tell(_) => {
+            do_command::<M, Rt, F, I, O, E>(rt, files, arguments, input, output, errors)
+        }
+        Arguments::Host(arguments) => {
+            do_host::<M, Rt, F, O, E>(rt, files, arguments, output, errors)
+        }
+        _ => do_explained::<M, Rt, F, I, O, E>(rt, files, arguments, input, output, errors),
+    }
+}
+
+/// Does a command that reports only how it ended, and explains its refusal. The report is kept in memory until then. If
+/// there is no memory for it, nothing is explained.
+fn do_explained<
+    M: PagedMemory + Drop + Send + 'static,
+    Rt: System + Net + Threads + Wait + 'static,
+    F: NamedFiles,
+    I: Read,
+    O: Write,
+    E: Write,
+>(rt: &Rt, files: &F, arguments: &Arguments, input: &mut I, output: &mut O, errors: &mut E) -> u8
+where
+    Rt::Stream: Send,
+    Rt::Listener: Send + Sync,
+    Rt::File: Send,
+    ensures status { 3 < result → IsJudged arguments.now }
+    ensures lost { result ≡ 3 → IsTelling arguments.now ⊎ IsJudged arguments.now }
+    ensures passed { result ≡ 2 → IsPassingOn arguments.now }
+    ensures others { 1 < result → HasEndedEither (F.bytes_of files.now) (F.created_of files.now) arguments.now result
+        (I.remaining input.old) (written (O.contents output.old) (O.contents output.new))
+        (written (E.contents errors.old) (E.contents errors.new)) }
+    ensures done { result ≡ 0 → HasEndedEither (F.bytes_of files.now) (F.created_of files.now) arguments.now 0
+        (I.remaining input.old) (written (O.contents output.old) (O.contents output.new))
+        (written (E.contents errors.old) (E.contents errors.new)) }
+    ensures refused { result ≡ 1 → HasFailedEither (F.bytes_of files.now) (F.created_of files.now) arguments.now
+        (I.remaining input.old) (written (O.contents output.old) (O.contents output.new))
+        (written (E.contents errors.old) (E.contents errors.new)) }
+{
+    let Ok(mut report) = Vec::with_capacity(rt.alloc(), REPORT_SIZE) else {
+        return do_command::<M, Rt, F, I, O, E>(rt, files, arguments, input, output, errors);
+    };
+    let status = do_command::<M, Rt, F, I, O, Vec<u8>>(
+        rt,
+        files,
+        arguments,
+        input,
+        output,
+        &mut report,
+    );
+    if pass_on(&report, errors).is_err() {
+        return UNTOLD;
+    }
+    if status == REFUSED {
+        let _unexplained = explain_report(files, rt.alloc(), arguments, &report, errors);
+    }
+    status
+}
+
+/// Works at a host, and says after it what was wrong with the files that it was given if it did not begin. A host writes to
+/// `errors` as it works.
+fn do_host<
+    M: PagedMemory + Drop + Send + 'static,
+    Rt: System + Net + Threads + Wait + 'static,
+    F: NamedFiles,
+    O: Write,
+    E: Write,
+>(rt: &Rt, files: &F, arguments: &HostArguments, output: &mut O, errors: &mut E) -> u8
+where
+    Rt::Stream: Send,
+    Rt::Listener: Send + Sync,
+    Rt::File: Send,
+    ensures ended { HostEnded (F.bytes_of files.now) arguments.now result
+        (written (O.contents output.old) (O.contents output.new)) }
+{
+    let found = find_for_host(files, rt.alloc(), arguments);
+    let status = work_as_host::<M, Rt, F, O, E>(rt, files, arguments, output, errors);
+    if let Some(found) = found {
+        if status == REFUSED {
+            let _unexplained = write_found(&found, errors);
+        }
+    }
+    status
+}
+
+/// Works at a host. Returns the status: that of `commands::host`, or `UNTOLD` if it failed to report how it ended.
+#[tactic(auto, using(crate::proofs::Statuses::host_has_ended))]
+fn work_as_host<
+    M: PagedMemory + Drop + Send + 'static,
+    Rt: System + Net + Threads + Wait + 'static,
+    F: NamedFiles,
+    O: Write,
+    E: Write,
+>(rt: &Rt, files: &F, arguments: &HostArguments, output: &mut O, errors: &mut E) -> u8
+where
+    Rt::Stream: Send,
+    Rt::Listener: Send + Sync,
+    Rt::File: Send,
+    ensures ended { HostEnded (F.bytes_of files.now) arguments.now result
+        (written (O.contents output.old) (O.contents output.new)) }
+{
+    status_of(commands::host::<M, Rt, F, O, E>(rt, files, arguments, output, errors))
 }
 
 /// Does what a command line asks for. Returns the status: 0 if it was done, 1 if it was refused or a write to `errors`

@@ -1,0 +1,33 @@
+-- How a command ended whose report was kept in memory.
+use Rattle.std.proofs.Common.{◌≡◌, ◌<◌, ℕ, zero, suc, List, [], Option, Some, inl, inr, refl, subst, arith}
+use Rattle.rvm_arguments.specs.declared.arguments.Arguments.{Arguments}
+use Rattle.rvm_program.specs.Ended.{HasEnded, Written, written}
+use Rattle.rvm_program.specs.Files.{Named}
+use Rattle.rvm_program.specs.Performed.{HasFailed, HasFailedEither}
+
+-- if its report may not have been written as a whole, it failed to report how it ended
+unpassed_empty : (files created : Named) (a : Arguments) (script : Option (List ℕ)) (output errors : Written) (report : List ℕ)
+    (status : ℕ)
+    → (status ≡ 0 → HasEnded files created a 0 script output (written (Some []) (Some report)))
+    → (1 < status → HasEnded files created a status script output (written (Some []) (Some report)))
+    → (status ≡ 1 → HasFailed files created a script output (written (Some []) (Some report)))
+    → HasFailedEither files created a script output errors
+unpassed_empty files created a script output errors report zero done others failed =
+    inl (inr (inr (0, report, inl (done refl))))
+unpassed_empty files created a script output errors report (suc zero) done others failed =
+    inr (record { report = report; failed = failed refl })
+unpassed_empty files created a script output errors report (suc (suc n)) done others failed =
+    inl (inr (inr (suc (suc n), report, inl (others (omega arith)))))
+
+-- the same of a buffer that held nothing before
+pub unpassed : (files created : Named) (a : Arguments) (script : Option (List ℕ)) (output errors : Written)
+    (held report : List ℕ) (status : ℕ) → held ≡ []
+    → (status ≡ 0 → HasEnded files created a 0 script output (written (Some held) (Some report)))
+    → (1 < status → HasEnded files created a status script output (written (Some held) (Some report)))
+    → (status ≡ 1 → HasFailed files created a script output (written (Some held) (Some report)))
+    → HasFailedEither files created a script output errors
+unpassed files created a script output errors held report status none done others failed =
+    unpassed_empty files created a script output errors report status
+    (subst (λ h. status ≡ 0 → HasEnded files created a 0 script output (written (Some h) (Some report))) none done)
+    (subst (λ h. 1 < status → HasEnded files created a status script output (written (Some h) (Some report))) none others)
+    (subst (λ h. status ≡ 1 → HasFailed files created a script output (written (Some h) (Some report))) none failed)

@@ -1,0 +1,102 @@
+//! What is said of a refusal if nothing is found to be wrong with the files.
+
+ghost use Rattle.std.specs.Prelude.{◌≡◌};
+ghost use Rattle.rvm_program.specs.Reports.{unfound_words};
+
+use crate::refusal_report::RefusalReport;
+use rvm_arguments::Arguments;
+use rvm_refusal::Refusal;
+
+/// What may have failed if nothing is found to be wrong with the files.
+#[derive(Clone, Copy, Debug, PartialEq, Eq)]
+pub(crate) enum Unfound {
+    /// It is not known.
+    Cause,
+    /// Memory ran out.
+    Memory,
+    /// A line of a text that cannot be read again.
+    Line,
+    /// A line of standard input.
+    InputLine,
+    /// The length of standard input.
+    LongInput,
+    /// A write of `run`.
+    RunWrite,
+    /// A write of `asm`.
+    AsmWrite,
+    /// A read or a write of `debug`.
+    DebugStream,
+    /// A connection between the hosts of `move` or `audit`, or a write of theirs.
+    MoveStream,
+    /// A write of another command.
+    Write,
+}
+
+impl Unfound {
+    /// What may have failed if a command reported this refusal, and nothing is found to be wrong with its files.
+    pub(crate) fn of(report: &RefusalReport<'_>, arguments: &Arguments) -> Unfound {
+        if report.has(Refusal::OutOfMemory) {
+            return Unfound::Memory;
+        }
+        if report.is(Refusal::LinkFault) {
+            return unwritten(arguments);
+        }
+        if report.line_of(Refusal::BadToken).is_some() {
+            return unkept(arguments);
+        }
+        if report.is(Refusal::TooLong) {
+            return too_long(arguments);
+        }
+        Unfound::Cause
+    }
+
+    /// What is said.
+    pub(crate) fn words(self) -> &'static str
+        ensures { result.now ≡ unfound_words self }
+    {
+        match self {
+            Unfound::Cause => "nothing wrong was found with the files",
+            Unfound::Memory => "memory ran out: give this process more",
+            Unfound::Line => "the text cannot be read again, so its line is not shown",
+            Unfound::InputLine => "standard input: this is no line of a script (docs/SCRIPTS.md)",
+            Unfound::LongInput => "standard input: this has more than 67108864 bytes",
+            Unfound::RunWrite =>
+                "nothing wrong was found with the files: a write to standard output, or to a file that the run writes, may have failed",
+            Unfound::AsmWrite =>
+                "nothing wrong was found with the files: a write to OUT may have failed",
+            Unfound::DebugStream =>
+                "nothing wrong was found with the files: a read of standard input, or a write to standard output, may have failed",
+            Unfound::MoveStream =>
+                "nothing wrong was found with the files: a connection over loopback, or a write to standard output, may have failed",
+            Unfound::Write =>
+                "nothing wrong was found with the files: a write to standard output may have failed",
+        }
+    }
+}
+
+/// What is not kept of a line that is refused.
+fn unkept(arguments: &Arguments) -> Unfound {
+    match arguments {
+        Arguments::Debug(_) => Unfound::InputLine,
+        _ => Unfound::Line,
+    }
+}
+
+/// What has too many bytes, though no file has.
+fn too_long(arguments: &Arguments) -> Unfound {
+    match arguments {
+        Arguments::Debug(_) => Unfound::LongInput,
+        _ => Unfound::Cause,
+    }
+}
+
+/// Which read or write may have failed.
+fn unwritten(arguments: &Arguments) -> Unfound {
+    match arguments {
+        Arguments::Run(_) => Unfound::RunWrite,
+        Arguments::Asm(_) => Unfound::AsmWrite,
+        Arguments::Debug(_) => Unfound::DebugStream,
+        Arguments::Move(_) | Arguments::Audit(_) => Unfound::MoveStream,
+        _ => Unfound::Write,
+    }
+}
