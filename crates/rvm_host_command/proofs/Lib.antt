@@ -3,4 +3,7 @@ pub mod Answered
 mod Examples
 pub mod Told
 pub mod Hosted
+mod OnlyOne
+mod AllHosts
+mod OrderLines
 mod Showing

@@ -2,4 +2,5 @@ pub mod Hosted
 pub mod Told
 pub mod Answered
 pub mod Journals
+pub mod Audited
 pub mod Consoles

@@ -39,7 +39,7 @@ pub(crate) fn replay_bytes<M: PagedMemory + Drop>(
 }
 
 /// Makes a host with an empty journal, as a host process does. Fails if no world of so many hosts has such a host.
-fn open_host<M: PagedMemory + Drop>(
+pub(crate) fn open_host<M: PagedMemory + Drop>(
     alloc: Global,
     guest: Option<Debugged<M>>,
     hosts: u8,
