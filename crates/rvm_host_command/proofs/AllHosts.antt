@@ -1,5 +1,5 @@
 -- The hosts of a world did what their journals tell, one after the other.
-use Rattle.std.proofs.Common.{◌≡◌, ℕ, zero, suc, List, [], ◌∷◌, ◌++◌, length, Some, sym, subst}
+use Rattle.std.proofs.Common.{◌≡◌, ◌∙◌, ℕ, zero, suc, ◌+◌, List, [], ◌∷◌, ◌++◌, arith, length, length-append, Some, ap, sym, subst}
 use Rattle.std.specs.Prelude.{slice_get}
 use Rattle.std.proofs.lemmas.Option.{same_Some}
 use Rattle.rvm_recorder.specs.History.{Recording}
@@ -21,7 +21,12 @@ pub none_done : (files : List JournalFile) (image : List ℕ) (n : ℕ) → AllD
 none_done files image n x r at = cc
 
 -- one more host did what its journal tells
-pub one_done : (files : List JournalFile) (image : List ℕ) (n host : ℕ) (all : List Recording) (r : Recording)
-    → AllDone files image n all → length all ≡ host → HasDone files image n host r → AllDone files image n (all ++ r ∷ [])
-one_done files image n host all r each long here =
-    push_each (HasDone files image n) all r each (subst (λ x. HasDone files image n x r) (sym long) here)
+pub one_done : (files : List JournalFile) (image : List ℕ) (n host : ℕ) (all now : List Recording) (r : Recording)
+    → now ≡ all ++ r ∷ [] → AllDone files image n all × (length all ≡ host) → HasDone files image n host r
+    → AllDone files image n now × (length now ≡ host + 1)
+one_done files image n host all now r is so here =
+    let long = so.1 in (
+      subst (AllDone files image n) (sym is)
+          (push_each (HasDone files image n) all r so.0 (subst (λ x. HasDone files image n x r) (sym long) here)),
+      ap length is ∙ omega (arith, long, length-append all (r ∷ [])),
+    )

@@ -6,4 +6,6 @@ pub mod Hosted
 mod OnlyOne
 mod AllHosts
 mod OrderLines
+mod Counting
+mod SummaryLines
 mod Showing

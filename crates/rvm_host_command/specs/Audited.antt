@@ -1,5 +1,5 @@
 -- Journals of the hosts of a world, in files: whose they are, what the hosts did, and the order of all of it.
-use Rattle.std.specs.Prelude.{◌≡◌, ◌⊎◌, ⊤, ℕ, ◌<◌, ◌==◌, Bool, true, false, is_some, List, [], length, map, slice_get, Option, Some, None}
+use Rattle.std.specs.Prelude.{◌≡◌, ◌⊎◌, ℕ, ◌<◌, ◌==◌, Bool, true, false, is_some, List, [], length, map, slice_get, Option, Some, None}
 use Rattle.std.specs.Io.KnownBytes.{Appends}
 use Rattle.std.specs.Option.{option_and_then}
 use Rattle.rvm_host.specs.Hosts.{new_host}
@@ -16,6 +16,7 @@ use Rattle.rvm_host_command.specs.declared.journal_audit.AuditText.TheVariants.{
 use Rattle.rvm_host_command.specs.declared.journal_file.JournalFile.{JournalFile}
 use Rattle.rvm_host_command.specs.declared.journal_headers.Wanted.{Wanted}
 use Rattle.rvm_host_command.specs.declared.journal_headers.Wanted.TheVariants.{OfHost, WithGuest}
+use Rattle.rvm_host_command.specs.Counts.{summary_of}
 use Rattle.rvm_host_command.specs.Journals.{IsHostOf}
 
 -- the header of the journal with this index, if there is such a journal, and it has one
@@ -96,9 +97,10 @@ pub record AreReplayed (files : List JournalFile) (image : List ℕ) (all : List
 abbrev pub journals_in : List Recording → Journals
 journals_in all = journals_of (map (λ r. r.journal) all)
 
--- what was asked for of an order of the journals of these hosts was written: its events, a line each, if they were
+-- what was asked for was written of an order of the journals of these hosts: what the journals add up to, a line for each
+-- host and one for all, or the events, a line each
 abbrev pub IsWritten : AuditText → List Recording → List Event → (before after : Option (List ℕ)) → Type 0
-IsWritten Summary all events before after = ⊤
+IsWritten Summary all events before after = Appends before after (summary_of all)
 IsWritten Order all events before after = Appends before after (event_lines (length all) events)
 
 -- the journals of these hosts have an order, that of the rule, and what was asked for of it was written

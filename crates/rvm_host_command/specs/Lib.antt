@@ -2,5 +2,6 @@ pub mod Hosted
 pub mod Told
 pub mod Answered
 pub mod Journals
-pub mod Audited
 pub mod Consoles
+pub mod Counts
+pub mod Audited

@@ -34,7 +34,7 @@ pub(crate) fn replay_all<M: PagedMemory + Drop>(
 }
 
 /// Makes the hosts of a world that has this many, in order, and has each do what its journal tells.
-#[tactic(auto, using(crate::proofs::AllHosts::none_done, crate::proofs::AllHosts::one_done))]
+#[tactic(auto, using(crate::proofs::AllHosts::none_done))]
 fn replay_each<M: PagedMemory + Drop>(
     alloc: Global,
     files: &[JournalFile<'_>],
