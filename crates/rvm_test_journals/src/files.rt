@@ -5,6 +5,7 @@ use rvm_host_command::journal_audit::{AuditText, audit_journals};
 use rvm_host_command::journal_file::JournalFile;
 use rvm_paged::PagedRam;
 use std::alloc::Global;
+use std::io::BufWriter;
 
 /// The image of the guest: a jump to itself. Its SHA-256 stands in the header of host A.
 static IMAGE: [u8; 4] = [0x6F, 0, 0, 0];
@@ -106,38 +107,28 @@ fn audit<R: AllocGlobal + Print>(
     second: &[&str],
 ) -> Option<()> {
     for _ in 0..2 {
-        let first = journal(rt.alloc(), &FIRST, change)?;
-        let second = journal(rt.alloc(), second, Change::Nothing)?;
-        if tell(rt, name, first.as_slice(), second.as_slice())? {
+        let files = [
+            JournalFile {
+                name: "a.journal",
+                bytes: journal(rt.alloc(), &FIRST, change)?,
+            },
+            JournalFile {
+                name: "b.journal",
+                bytes: journal(rt.alloc(), second, Change::Nothing)?,
+            },
+        ];
+        if tell(rt, name, &files)? {
             return Some(());
         }
     }
     None
 }
 
-/// Audits two journals, and prints the status and all that was written. Returns false if memory ran out.
-fn tell<R: AllocGlobal + Print>(rt: &R, name: &str, first: &[u8], second: &[u8]) -> Option<bool> {
-    let files = [
-        JournalFile {
-            name: "a.journal",
-            bytes: first,
-        },
-        JournalFile {
-            name: "b.journal",
-            bytes: second,
-        },
-    ];
+/// Audits journals, and prints the status and all that was written. Returns false if memory ran out.
+fn tell<R: AllocGlobal + Print>(rt: &R, name: &str, files: &[JournalFile<'_>]) -> Option<bool> {
     let mut output = Vec::new(rt.alloc());
     let mut errors = Vec::new(rt.alloc());
-    let audited = audit_journals::<PagedRam, _, _>(
-        rt.alloc(),
-        &files,
-        &IMAGE,
-        AuditText::Summary,
-        &mut output,
-        &mut errors,
-    );
-    let Ok(status) = audited else {
+    let Some(status) = status_of(rt.alloc(), files, &mut output, &mut errors) else {
         return Some(false);
     };
     if errors.starts_with(b"refused 1 ") {
@@ -148,6 +139,18 @@ fn tell<R: AllocGlobal + Print>(rt: &R, name: &str, first: &[u8], second: &[u8])
     println!(rt; "{name}: status {status}").ok()?;
     print!(rt; "{summary}{why}").ok()?;
     Some(true)
+}
+
+/// The status of an audit of journals, whose summary is written to a buffer in front of `output`. None if memory ran out.
+fn status_of(
+    alloc: Global,
+    files: &[JournalFile<'_>],
+    output: &mut Vec<u8>,
+    errors: &mut Vec<u8>,
+) -> Option<u8> {
+    let mut buffer = BufWriter::new(alloc, output).ok()?;
+    let summary = AuditText::Summary;
+    audit_journals::<PagedRam, _, _>(alloc, files, &IMAGE, summary, &mut buffer, errors).ok()
 }
 
 /// The bytes of a journal with these lines, and a change.
