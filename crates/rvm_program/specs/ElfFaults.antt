@@ -1,5 +1,5 @@
 -- What is wrong with an ELF file, and what a report says of it.
-use Rattle.std.specs.Prelude.{◌≡◌, ◌≢◌, ℕ, ◌+◌, ◌*◌, ◌<◌, Bool, true, false, ◌||◌, ◌==◌, nat_lt, if◌then◌else◌, List, [], ◌++◌, Option, Some, None, Result, Ok, Err, codes, length, slice_index}
+use Rattle.std.specs.Prelude.{◌≡◌, ◌≢◌, ℕ, ◌+◌, ◌*◌, ◌<◌, true, false, ◌||◌, ◌==◌, nat_lt, if◌then◌else◌, List, [], ◌++◌, Option, Some, None, Result, Ok, Err, codes, length, slice_index}
 use Rattle.std.specs.Fmt.{decimal}
 use Rattle.rvm_elf.specs.File.{checked, e_machine, e_phentsize, e_phnum, e_phoff, e_type, header_at, header_checked, headers_checked, is_elf, is_riscv32, lacks_headers}
 use Rattle.rvm_elf.specs.declared.error.ReadError.{ReadError}

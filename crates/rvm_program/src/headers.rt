@@ -18,7 +18,7 @@ const PROGRAM_HEADER_SIZE: usize = 32;
 const MAX_HEADERS: u16 = 16;
 
 /// The first thing that is wrong with an ELF file of a program for the board.
-#[derive(Clone, Copy, Debug, PartialEq, Eq)]
+#[derive(Clone, Copy, Debug)]
 pub(crate) enum ElfFault {
     /// The file does not begin with the four magic bytes.
     NoMagic,
