@@ -14,5 +14,6 @@ pub mod Merges
 pub mod Taken
 pub mod Parts
 pub mod Lists
+pub mod OrderLines
 pub mod Two
 mod Keys

@@ -6,11 +6,12 @@
 //! must not know threads or locks. The laws of any number of hosts know no code: their definitions are in `specs/`, in
 //! Hosts, Orders and Worlds.
 //!
-//! To be read in this order: `laws`; `error`, `places`, `placed`, `part`, `merge`, `merging`, `order`, `list`.
+//! To be read in this order: `laws`; `error`, `places`, `placed`, `part`, `merge`, `merging`, `order`, `list`, `lines`.
 #![tactic(auto)]
 
 mod error;
 pub mod laws;
+mod lines;
 mod list;
 mod merge;
 mod merging;
@@ -20,6 +21,7 @@ mod placed;
 mod places;
 
 pub use error::AuditError;
+pub use lines::write_order;
 pub use list::{Audit, audit_all};
 pub use order::{audit, audit_in_runs, dead_ends_have_no_order, the_guest_of_an_order_never_moves};
 pub use part::Place;

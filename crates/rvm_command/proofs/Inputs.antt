@@ -99,6 +99,7 @@ watched_of stop range steps whole run g =
       pages = all.pages;
       written = all.bytes;
       ended = end_at (fault_among stop [] (steps_in whole.events g)) run.ended;
+      steps = steps_in run.events g;
       lines = trace_of range (steps_in run.events g);
     }
 
@@ -127,7 +128,7 @@ ends_so a file begun input (Ok ended) before after trace_before trace_after repo
         came.0 ∙ ap (λ (r : Watched). r.ended) same,
         subst (Appends before after) (ap (λ (r : Watched). r.written) same) came.1,
         subst (λ (l : List (List ℕ)). Appends trace_before trace_after (concat l)) (ap (λ (r : Watched). r.lines) same) came.2,
-        subst (λ (r : Watched). Appends report_before report_after (report_text a.report r.guest)) same came.3,
+        subst (λ (r : Watched). Appends report_before report_after (report_text a.report i.1 r)) same came.3,
       )) came,
 )
 ends_so a file begun input (Err r) before after trace_before trace_after report_before report_after is (inl refused) = inl refused

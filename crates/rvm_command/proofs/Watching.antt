@@ -1,5 +1,5 @@
 -- A run turn by turn: the steps among its events, the first fault that they show, and their lines.
-use Rattle.std.proofs.Common.{◌≡◌, ◌⊎◌, ℕ, zero, suc, ◌+◌, ◌-◌, ◌/◌, ◌%◌, ◌<◌, ◌≤◌, List, [], ◌∷◌, ◌++◌, length, get_or, replicate, Option, Some, None, Bool, true, false, refl, sym, ap, subst, ◌∙◌, inl, inr, arith, append_assoc, append-nil, cond, nat_eq, nat_lt}
+use Rattle.std.proofs.Common.{◌≡◌, ◌⊎◌, ℕ, zero, suc, ◌+◌, ◌-◌, ◌/◌, ◌%◌, ◌^◌, ◌<◌, ◌≤◌, List, [], ◌∷◌, ◌++◌, length, get_or, replicate, Option, Some, None, Bool, true, false, refl, sym, ap, subst, ◌∙◌, inl, inr, arith, append_assoc, append-nil, cond, nat_eq, nat_lt}
 use Rattle.std.proofs.lemmas.Bool.{cases_eq, ne_eqb}
 use Rattle.std.proofs.lemmas.Bool.Decides.{nat_tests}
 use Rattle.std.proofs.lemmas.List.{get_or-set_same, get_or-set_other, get_or-replicate, length-append, length-set}
@@ -22,6 +22,8 @@ use Rattle.rvm_command.specs.declared.fault.Fault.{Fault}
 use Rattle.rvm_command.specs.declared.run.Ended.{Ended}
 use Rattle.rvm_command.specs.declared.run.Ended.TheVariants as ended
 use Rattle.rvm_command.specs.Buffered.{GoesOut}
+use Rattle.rvm_command.specs.Counting.{AreRuns, noted as noted_step}
+use Rattle.rvm_command.proofs.Covering.{counted_more}
 use Rattle.rvm_command.specs.Faults.{Shown, cause_of, fault_at, fault_of, first_fault, latest_fault, or_later, shown}
 use Rattle.rvm_command.specs.Run.{After, IsAfter, IsPartWay, Run, after, bytes_in, drains, first, left, offers, run_from, step_of, unless_halted}
 use Rattle.rvm_command.specs.Taken.{Taken, step_in, steps_in}
@@ -324,8 +326,8 @@ some_line range n ts t us size traced =
 -- ---- turns so far
 
 -- the turns so far: their events; that each longer run begins with them; the bytes that they were answered; the first
--- fault that they show; what is known of each hart's latest step; and the lines of their steps
-pub record Turned (stop : Bool) (range : Option (ℕ × ℕ)) (input : List ℕ) (start now : GuestState) (turn : ℕ) (end : Option Ended) (kept : List ℕ) (latest : List (Option Fault)) (held : List ℕ) (before written trace_before traced : Option (List ℕ)) : Type 0 where
+-- fault that they show; what is known of each hart's latest step; how often each word ran; and the lines of their steps
+pub record Turned (stop : Bool) (range : Option (ℕ × ℕ)) (input : List ℕ) (start now : GuestState) (turn : ℕ) (end : Option Ended) (kept : List ℕ) (latest : List (Option Fault)) (counts : List ℕ) (held : List ℕ) (before written trace_before traced : Option (List ℕ)) : Type 0 where
   pub made : List BoardEvent
   pub whole : (n : ℕ) → run_from (turn + n) 0 input start.guest ≡ first made (rest_after end n turn kept now.guest)
   pub so_far : IsAfter made start now
@@ -335,11 +337,12 @@ pub record Turned (stop : Bool) (range : Option (ℕ × ℕ)) (input : List ℕ)
   pub taken : length (steps_in made start.guest) ≡ turn
   pub found : (us : List Taken) → fault_among stop [] (steps_in made start.guest ++ us) ≡ found_at end turn (fault_among stop earlier us)
   pub known : Knows latest earlier
+  pub counted : AreRuns counts (steps_in made start.guest)
   pub lines : Appends trace_before traced (concat (lines_from range 0 (steps_in made start.guest)))
 
-pub none_turned : (stop : Bool) (range : Option (ℕ × ℕ)) (input : List ℕ) (start : GuestState) (latest : List (Option Fault)) (before trace_before : Option (List ℕ)) → latest ≡ replicate 8 None
-    → Turned stop range input start start 0 None input latest [] before before trace_before trace_before
-none_turned stop range input start latest before trace_before e =
+pub none_turned : (stop : Bool) (range : Option (ℕ × ℕ)) (input : List ℕ) (start : GuestState) (latest : List (Option Fault)) (counts : List ℕ) (before trace_before : Option (List ℕ)) → latest ≡ replicate 8 None → AreRuns counts []
+    → Turned stop range input start start 0 None input latest counts [] before before trace_before trace_before
+none_turned stop range input start latest counts before trace_before e zeros =
     let no_steps = sym (steps_none start.guest) in
     record {
       made = [];
@@ -351,6 +354,7 @@ none_turned stop range input start latest before trace_before e =
       taken = ap length (steps_none start.guest);
       found = λ us. ap (λ (l : List Taken). fault_among stop [] (l ++ us)) (steps_none start.guest);
       known = knows_none latest e;
+      counted = subst (AreRuns counts) no_steps zeros;
       lines = subst (λ (l : List Taken). Appends trace_before trace_before (concat (lines_from range 0 l))) no_steps
           (subst (λ (l : List (List ℕ)). Appends trace_before trace_before (concat l)) (sym (lines_none range 0)) (appends_none trace_before));
     }
@@ -361,14 +365,14 @@ first_three a b c r =
     ap (λ (l : List BoardEvent). record r { events = l }) (ap (λ (l : List BoardEvent). a ++ l) (sym (append_assoc b c r.events)) ∙ sym (append_assoc a (b ++ c) r.events))
 
 -- a turn after others: its events, and what is taken after it
-pub turned_more : {stop : Bool} {range : Option (ℕ × ℕ)} {input : List ℕ} {start now fed stepped : GuestState} {turn h pc : ℕ} {end : Option Ended} {kept next : List ℕ} {latest noted : List (Option Fault)} {held left_held : List ℕ} {before written out trace_before traced trace_after : Option (List ℕ)} {r : BoardReply} {told : Option Fault} (new : GuestState)
-    → h < 8 → Turned stop range input start now turn None kept latest held before written trace_before traced
-    → TurnMade stop turn h kept next now fed stepped r told end → pc ≡ pc_of h fed.guest → told ≡ shown r (get_or latest h None)
+pub turned_more : {stop : Bool} {range : Option (ℕ × ℕ)} {input : List ℕ} {start now fed stepped : GuestState} {turn h pc : ℕ} {end : Option Ended} {kept next : List ℕ} {latest noted : List (Option Fault)} {counts tallied : List ℕ} {held left_held : List ℕ} {before written out trace_before traced trace_after : Option (List ℕ)} {r : BoardReply} {told : Option Fault} (new : GuestState)
+    → h < 8 → turn < 2 ^ 32 - 1 → Turned stop range input start now turn None kept latest counts held before written trace_before traced
+    → TurnMade stop turn h kept next now fed stepped r told end → tallied ≡ noted_step pc r counts → pc ≡ pc_of h fed.guest → told ≡ shown r (get_or latest h None)
     → noted ≡ slice_set latest h (option_map (fault_at h pc stepped.guest) (cause_of r))
     → Appends traced trace_after (concat (lines_from range turn (taken_by h fed.guest ∷ [])))
     → IsAfter (between end (turn + 1) stepped.guest) stepped new → GoesOut (after (between end (turn + 1) stepped.guest) stepped.guest).bytes held left_held written out
-    → Turned stop range input start new (turn + 1) end next noted left_held before out trace_before trace_after
-turned_more {stop} {range} {input} {start} {now} {fed} {stepped} {turn} {h} {pc} {end} {kept} {next} {latest} {noted} {held} {left_held} {before} {written} {out} {trace_before} {traced} {trace_after} {r} {told} new below so_far this at told_is noted_this line drained text =
+    → Turned stop range input start new (turn + 1) end next noted tallied left_held before out trace_before trace_after
+turned_more {stop} {range} {input} {start} {now} {fed} {stepped} {turn} {h} {pc} {end} {kept} {next} {latest} {noted} {counts} {tallied} {held} {left_held} {before} {written} {out} {trace_before} {traced} {trace_after} {r} {told} new below few so_far this tally at told_is noted_this line drained text =
     let g = start.guest in
     let ts = steps_in so_far.made g in
     let t = taken_by h fed.guest in
@@ -407,6 +411,9 @@ turned_more {stop} {range} {input} {start} {now} {fed} {stepped} {turn} {h} {pc}
           ∙ so_far.found (t ∷ us) ∙ fault_more stop so_far.earlier t us
           ∙ ap (λ (x : Option Ended). found_at x (length so_far.earlier + 1) (fault_among stop (t ∷ so_far.earlier) us)) (sym ends)
           ∙ ap (λ k. found_at end (k + 1) (fault_among stop (t ∷ so_far.earlier) us)) so_far.count;
+      counted = subst (AreRuns tallied) (sym steps_all)
+          (subst (λ (l : List ℕ). AreRuns l (ts ++ t ∷ [])) (sym (tally ∙ ap (λ k. noted_step k r counts) at ∙ ap (λ (x : BoardReply). noted_step (pc_of h fed.guest) x counts) this.said))
+          (counted_more counts ts t (omega (arith, so_far.taken, few)) so_far.counted));
       known = knows_more t below so_far.known (noted_is latest noted h pc fed stepped r this.made this.said at noted_this);
       lines = subst (λ (l : List ℕ). Appends trace_before trace_after l)
           (sym (ap (λ (l : List Taken). concat (lines_from range 0 l)) steps_all
@@ -418,16 +425,16 @@ turned_more {stop} {range} {input} {start} {now} {fed} {stepped} {turn} {h} {pc}
 -- ---- the whole run
 
 -- the steps of a longer run are those so far and those of the rest
-steps_whole : {stop : Bool} {range : Option (ℕ × ℕ)} {input : List ℕ} {start now : GuestState} {turn : ℕ} {end : Option Ended} {kept : List ℕ} {latest : List (Option Fault)} {held : List ℕ} {before written trace_before traced : Option (List ℕ)} (n : ℕ) (so_far : Turned stop range input start now turn end kept latest held before written trace_before traced)
+steps_whole : {stop : Bool} {range : Option (ℕ × ℕ)} {input : List ℕ} {start now : GuestState} {turn : ℕ} {end : Option Ended} {kept : List ℕ} {latest : List (Option Fault)} {counts : List ℕ} {held : List ℕ} {before written trace_before traced : Option (List ℕ)} (n : ℕ) (so_far : Turned stop range input start now turn end kept latest counts held before written trace_before traced)
     → steps_of_run (turn + n) input start.guest ≡ steps_in so_far.made start.guest ++ steps_in (rest_after end n turn kept now.guest).events now.guest
-steps_whole {stop} {range} {input} {start} {now} {turn} {end} {kept} {latest} {held} {before} {written} {trace_before} {traced} n so_far =
+steps_whole {stop} {range} {input} {start} {now} {turn} {end} {kept} {latest} {counts} {held} {before} {written} {trace_before} {traced} n so_far =
     let rest = rest_after end n turn kept now.guest in
     ap (λ (r : Run). steps_in r.events start.guest) (so_far.whole n) ∙ steps_both so_far.made rest.events start.guest
     ∙ ap (λ (x : Guest). steps_in so_far.made start.guest ++ steps_in rest.events x) (sym so_far.so_far.guest)
 
-progress : {stop : Bool} {range : Option (ℕ × ℕ)} {input : List ℕ} {start now : GuestState} {turn : ℕ} {end : Option Ended} {kept : List ℕ} {latest : List (Option Fault)} {held : List ℕ} {before written trace_before traced : Option (List ℕ)} (m n : ℕ) → m ≡ turn + n → Turned stop range input start now turn end kept latest held before written trace_before traced
+progress : {stop : Bool} {range : Option (ℕ × ℕ)} {input : List ℕ} {start now : GuestState} {turn : ℕ} {end : Option Ended} {kept : List ℕ} {latest : List (Option Fault)} {counts : List ℕ} {held : List ℕ} {before written trace_before traced : Option (List ℕ)} (m n : ℕ) → m ≡ turn + n → Turned stop range input start now turn end kept latest counts held before written trace_before traced
     → Progress (run_from m 0 input start.guest).events (rest_after end n turn kept now.guest).events start now [] held before written
-progress {stop} {range} {input} {start} {now} {turn} {end} {kept} {latest} {held} {before} {written} {trace_before} {traced} m n e so_far =
+progress {stop} {range} {input} {start} {now} {turn} {end} {kept} {latest} {counts} {held} {before} {written} {trace_before} {traced} m n e so_far =
     record {
       made = so_far.made;
       whole = sym (ap (λ (r : Run). r.events) (ap (λ k. run_from k 0 input start.guest) e ∙ so_far.whole n));
@@ -448,9 +455,9 @@ above : (m turn : ℕ) → turn < m → IsAbove m turn
 above m turn below = record { more = m - turn - 1; is = omega (arith, below) }
 
 -- a run makes one turn more after turns that did not end it
-more_turns : {stop : Bool} {range : Option (ℕ × ℕ)} {input : List ℕ} {start now : GuestState} {turn : ℕ} {kept : List ℕ} {latest : List (Option Fault)} {held : List ℕ} {before written trace_before traced : Option (List ℕ)} (steps : ℕ) → turn < steps → Turned stop range input start now turn None kept latest held before written trace_before traced
+more_turns : {stop : Bool} {range : Option (ℕ × ℕ)} {input : List ℕ} {start now : GuestState} {turn : ℕ} {kept : List ℕ} {latest : List (Option Fault)} {counts : List ℕ} {held : List ℕ} {before written trace_before traced : Option (List ℕ)} (steps : ℕ) → turn < steps → Turned stop range input start now turn None kept latest counts held before written trace_before traced
     → IsAbove (turns_of stop steps input start.guest) turn
-more_turns {stop} {range} {input} {start} {now} {turn} {kept} {latest} {held} {before} {written} {trace_before} {traced} steps below so_far =
+more_turns {stop} {range} {input} {start} {now} {turn} {kept} {latest} {counts} {held} {before} {written} {trace_before} {traced} steps below so_far =
     let all : IsAbove steps turn = above steps turn below in
     let us = steps_in (run_from (suc all.more) turn kept now.guest).events now.guest in
     let found : fault_among stop [] (steps_of_run steps input start.guest) ≡ fault_among stop so_far.earlier us =
@@ -460,10 +467,10 @@ more_turns {stop} {range} {input} {start} {now} {turn} {kept} {latest} {held} {b
     (turns_above (fault_among stop [] (steps_of_run steps input start.guest)) turn steps below (subst (IsLater turn) (sym found) later))
 
 -- the line of a step could not be written
-pub line_failed : {stop : Bool} {range : Option (ℕ × ℕ)} {input : List ℕ} {start now : GuestState} {turn : ℕ} {kept : List ℕ} {latest : List (Option Fault)} {held : List ℕ} {before written trace_before traced : Option (List ℕ)} (h steps : ℕ) (next : List ℕ) (fed stepped : GuestState) → turn < steps → Turned stop range input start now turn None kept latest held before written trace_before traced
+pub line_failed : {stop : Bool} {range : Option (ℕ × ℕ)} {input : List ℕ} {start now : GuestState} {turn : ℕ} {kept : List ℕ} {latest : List (Option Fault)} {counts : List ℕ} {held : List ℕ} {before written trace_before traced : Option (List ℕ)} (h steps : ℕ) (next : List ℕ) (fed stepped : GuestState) → turn < steps → Turned stop range input start now turn None kept latest counts held before written trace_before traced
     → h ≡ turn % length now.guest.board.harts → IsAfter (offers kept) now fed → next ≡ left kept now.guest → IsAfter (Step h ∷ []) fed stepped → is_traced range turn ≡ true
     → BreaksOff (run_with stop range steps input start.guest) (run_from (turns_of stop steps input start.guest) 0 input start.guest).events start stepped
-line_failed {stop} {range} {input} {start} {now} {turn} {kept} {latest} {held} {before} {written} {trace_before} {traced} h steps next fed stepped below so_far hart offered fewer made is_so =
+line_failed {stop} {range} {input} {start} {now} {turn} {kept} {latest} {counts} {held} {before} {written} {trace_before} {traced} h steps next fed stepped below so_far hart offered fewer made is_so =
     let g = start.guest in
     let r = (answered (Step h) fed.guest).reply in
     let end = ends_turns r None stop in
@@ -492,10 +499,10 @@ line_failed {stop} {range} {input} {start} {now} {turn} {kept} {latest} {held} {
     }
 
 -- what the guest sent could not be written after a turn
-pub drain_failed : {stop : Bool} {range : Option (ℕ × ℕ)} {input : List ℕ} {start now fed stepped : GuestState} {turn h : ℕ} {end : Option Ended} {kept next : List ℕ} {latest : List (Option Fault)} {held : List ℕ} {before written trace_before traced : Option (List ℕ)} {r : BoardReply} {told : Option Fault} (steps : ℕ) (new : GuestState) → turn < steps → Turned stop range input start now turn None kept latest held before written trace_before traced
+pub drain_failed : {stop : Bool} {range : Option (ℕ × ℕ)} {input : List ℕ} {start now fed stepped : GuestState} {turn h : ℕ} {end : Option Ended} {kept next : List ℕ} {latest : List (Option Fault)} {counts : List ℕ} {held : List ℕ} {before written trace_before traced : Option (List ℕ)} {r : BoardReply} {told : Option Fault} (steps : ℕ) (new : GuestState) → turn < steps → Turned stop range input start now turn None kept latest counts held before written trace_before traced
     → TurnMade stop turn h kept next now fed stepped r told end → IsPartWay (between end (turn + 1) stepped.guest) stepped new → 0 < length (held ++ (after (between end (turn + 1) stepped.guest) stepped.guest).bytes)
     → BreaksOff (run_with stop range steps input start.guest) (run_from (turns_of stop steps input start.guest) 0 input start.guest).events start new
-drain_failed {stop} {range} {input} {start} {now} {fed} {stepped} {turn} {h} {end} {kept} {next} {latest} {held} {before} {written} {trace_before} {traced} {r} {told} steps new below so_far this part some =
+drain_failed {stop} {range} {input} {start} {now} {fed} {stepped} {turn} {h} {end} {kept} {next} {latest} {counts} {held} {before} {written} {trace_before} {traced} {r} {told} steps new below so_far this part some =
     let m = turns_of stop steps input start.guest in
     let more = more_turns steps below so_far in
     let n = more.more in
@@ -533,18 +540,18 @@ unfolding run_from
 no_turns_left t input g = refl
 
 -- no step follows
-none_after : {stop : Bool} {range : Option (ℕ × ℕ)} {input : List ℕ} {start now : GuestState} {turn : ℕ} {end : Option Ended} {kept : List ℕ} {latest : List (Option Fault)} {held : List ℕ} {before written trace_before traced : Option (List ℕ)} (steps n : ℕ) (e : Ended) → steps ≡ turn + n → rest_after end n turn kept now.guest ≡ record { events = drains now.guest; ended = e }
-    → Turned stop range input start now turn end kept latest held before written trace_before traced
+none_after : {stop : Bool} {range : Option (ℕ × ℕ)} {input : List ℕ} {start now : GuestState} {turn : ℕ} {end : Option Ended} {kept : List ℕ} {latest : List (Option Fault)} {counts : List ℕ} {held : List ℕ} {before written trace_before traced : Option (List ℕ)} (steps n : ℕ) (e : Ended) → steps ≡ turn + n → rest_after end n turn kept now.guest ≡ record { events = drains now.guest; ended = e }
+    → Turned stop range input start now turn end kept latest counts held before written trace_before traced
     → fault_among stop [] (steps_of_run steps input start.guest) ≡ found_at end turn None
-none_after {stop} {range} {input} {start} {now} {turn} {end} {kept} {latest} {held} {before} {written} {trace_before} {traced} steps n e all last so_far =
+none_after {stop} {range} {input} {start} {now} {turn} {end} {kept} {latest} {counts} {held} {before} {written} {trace_before} {traced} steps n e all last so_far =
     let us = steps_in (rest_after end n turn kept now.guest).events now.guest in
     let none : us ≡ [] = ap (λ (r : Run). steps_in r.events now.guest) last ∙ steps_drains now.guest in
     ap (λ k. fault_among stop [] (steps_of_run k input start.guest)) all ∙ ap (fault_among stop []) (steps_whole n so_far) ∙ so_far.found us
     ∙ ap (λ (l : List Taken). found_at end turn (fault_among stop so_far.earlier l)) none ∙ ap (found_at end turn) (fault_none stop so_far.earlier)
 
-pub closes : {stop : Bool} {range : Option (ℕ × ℕ)} {input : List ℕ} {start now : GuestState} {turn : ℕ} {kept : List ℕ} {latest : List (Option Fault)} {held : List ℕ} {before written trace_before traced : Option (List ℕ)} (steps : ℕ) (end : Option Ended) → turn ≤ steps → (end ≡ None → steps ≤ turn)
-    → Turned stop range input start now turn end kept latest held before written trace_before traced → Closes stop input start now steps turn end kept
-closes {stop} {range} {input} {start} {now} {turn} {kept} {latest} {held} {before} {written} {trace_before} {traced} steps None within spent so_far =
+pub closes : {stop : Bool} {range : Option (ℕ × ℕ)} {input : List ℕ} {start now : GuestState} {turn : ℕ} {kept : List ℕ} {latest : List (Option Fault)} {counts : List ℕ} {held : List ℕ} {before written trace_before traced : Option (List ℕ)} (steps : ℕ) (end : Option Ended) → turn ≤ steps → (end ≡ None → steps ≤ turn)
+    → Turned stop range input start now turn end kept latest counts held before written trace_before traced → Closes stop input start now steps turn end kept
+closes {stop} {range} {input} {start} {now} {turn} {kept} {latest} {counts} {held} {before} {written} {trace_before} {traced} steps None within spent so_far =
     let none = none_after steps 0 ended.StepsSpent (omega (arith, within, spent refl)) (no_turns_left turn kept now.guest) so_far in
     record {
       more = 0;
@@ -552,7 +559,7 @@ closes {stop} {range} {input} {start} {now} {turn} {kept} {latest} {held} {befor
       last = no_turns_left turn kept now.guest;
       told = ap (λ x. end_at x ended.StepsSpent) (sym none);
     }
-closes {stop} {range} {input} {start} {now} {turn} {kept} {latest} {held} {before} {written} {trace_before} {traced} steps (Some (ended.HaltedWith s)) within spent so_far =
+closes {stop} {range} {input} {start} {now} {turn} {kept} {latest} {counts} {held} {before} {written} {trace_before} {traced} steps (Some (ended.HaltedWith s)) within spent so_far =
     let none = none_after steps (steps - turn) (ended.HaltedWith s) (omega (arith, within)) refl so_far in
     record {
       more = steps - turn;
@@ -560,7 +567,7 @@ closes {stop} {range} {input} {start} {now} {turn} {kept} {latest} {held} {befor
       last = refl;
       told = ap (λ x. end_at x (ended.HaltedWith s)) (sym none);
     }
-closes {stop} {range} {input} {start} {now} {turn} {kept} {latest} {held} {before} {written} {trace_before} {traced} steps (Some ended.StepsSpent) within spent so_far =
+closes {stop} {range} {input} {start} {now} {turn} {kept} {latest} {counts} {held} {before} {written} {trace_before} {traced} steps (Some ended.StepsSpent) within spent so_far =
     let none = none_after steps (steps - turn) ended.StepsSpent (omega (arith, within)) refl so_far in
     record {
       more = steps - turn;
@@ -568,7 +575,7 @@ closes {stop} {range} {input} {start} {now} {turn} {kept} {latest} {held} {befor
       last = refl;
       told = ap (λ x. end_at x ended.StepsSpent) (sym none);
     }
-closes {stop} {range} {input} {start} {now} {turn} {kept} {latest} {held} {before} {written} {trace_before} {traced} steps (Some (ended.Fault f)) within spent so_far =
+closes {stop} {range} {input} {start} {now} {turn} {kept} {latest} {counts} {held} {before} {written} {trace_before} {traced} steps (Some (ended.Fault f)) within spent so_far =
     let n = steps - turn in
     let all : steps ≡ turn + n = omega (arith, within) in
     let us = steps_in (run_from n turn kept now.guest).events now.guest in
@@ -581,12 +588,30 @@ closes {stop} {range} {input} {start} {now} {turn} {kept} {latest} {held} {befor
       told = ap (λ x. end_at x ended.StepsSpent) (sym found);
     }
 
+-- the steps of a run that made these turns and no more
+steps_closed : {stop : Bool} {range : Option (ℕ × ℕ)} {input : List ℕ} {start now : GuestState} {turn : ℕ} {kept : List ℕ} {latest : List (Option Fault)} {counts : List ℕ} {held : List ℕ} {before written trace_before traced : Option (List ℕ)} (steps : ℕ) (end : Option Ended) → turn ≤ steps → (end ≡ None → steps ≤ turn)
+    → (so_far : Turned stop range input start now turn end kept latest counts held before written trace_before traced)
+    → steps_of_run (turns_of stop steps input start.guest) input start.guest ≡ steps_in so_far.made start.guest
+steps_closed {stop} {range} {input} {start} {now} {turn} {kept} {latest} {counts} {held} {before} {written} {trace_before} {traced} steps end within spent so_far =
+    let c = closes steps end within spent so_far in
+    let ts = steps_in so_far.made start.guest in
+    ap (λ k. steps_of_run k input start.guest) c.is ∙ steps_whole c.more so_far
+    ∙ ap (λ (r : Run). ts ++ steps_in r.events now.guest) c.last
+    ∙ ap (λ (l : List Taken). ts ++ l) (steps_drains now.guest) ∙ append-nil ts
+
+-- how often each word ran in a whole run
+pub run_counted : {stop : Bool} {range : Option (ℕ × ℕ)} {input : List ℕ} {start now : GuestState} {turn : ℕ} {kept : List ℕ} {latest : List (Option Fault)} {counts : List ℕ} {held : List ℕ} {before written trace_before traced : Option (List ℕ)} (steps : ℕ) (end : Option Ended) → turn ≤ steps → (end ≡ None → steps ≤ turn)
+    → Turned stop range input start now turn end kept latest counts held before written trace_before traced
+    → AreRuns counts (run_with stop range steps input start.guest).steps
+run_counted {stop} {range} {input} {start} {now} {turn} {kept} {latest} {counts} {held} {before} {written} {trace_before} {traced} steps end within spent so_far =
+    subst (AreRuns counts) (sym (steps_closed steps end within spent so_far)) so_far.counted
+
 -- the last drains were made, and all that was held was written
-pub run_closed : {stop : Bool} {range : Option (ℕ × ℕ)} {input : List ℕ} {start now new : GuestState} {turn : ℕ} {kept : List ℕ} {latest : List (Option Fault)} {held empty : List ℕ} {before written trace_before traced : Option (List ℕ)} (steps : ℕ) (end : Option Ended) (out : Option (List ℕ)) → turn ≤ steps → (end ≡ None → steps ≤ turn)
-    → Turned stop range input start now turn end kept latest held before written trace_before traced
+pub run_closed : {stop : Bool} {range : Option (ℕ × ℕ)} {input : List ℕ} {start now new : GuestState} {turn : ℕ} {kept : List ℕ} {latest : List (Option Fault)} {counts : List ℕ} {held empty : List ℕ} {before written trace_before traced : Option (List ℕ)} (steps : ℕ) (end : Option Ended) (out : Option (List ℕ)) → turn ≤ steps → (end ≡ None → steps ≤ turn)
+    → Turned stop range input start now turn end kept latest counts held before written trace_before traced
     → IsAfter (drains now.guest) now new → GoesOut (after (drains now.guest) now.guest).bytes held empty written out → empty ≡ []
     → HasRun (run_with stop range steps input start.guest) (unwrap_or end ended.StepsSpent) start new before out trace_before traced
-run_closed {stop} {range} {input} {start} {now} {new} {turn} {kept} {latest} {held} {empty} {before} {written} {trace_before} {traced} steps end out within spent so_far made text none =
+run_closed {stop} {range} {input} {start} {now} {new} {turn} {kept} {latest} {counts} {held} {empty} {before} {written} {trace_before} {traced} steps end out within spent so_far made text none =
     let c = closes steps end within spent so_far in
     let g = start.guest in
     let m = turns_of stop steps input g in
@@ -594,10 +619,7 @@ run_closed {stop} {range} {input} {start} {now} {new} {turn} {kept} {latest} {he
     let whole : run_from m 0 input g ≡ first so_far.made rest = ap (λ k. run_from k 0 input g) c.is ∙ so_far.whole c.more in
     let end_is : (run_from m 0 input g).ended ≡ plain_end end = ap (λ (r : Run). r.ended) (whole ∙ ap (first so_far.made) c.last) in
     let ts = steps_in so_far.made g in
-    let steps_all : steps_of_run m input g ≡ ts =
-    ap (λ k. steps_of_run k input g) c.is ∙ steps_whole c.more so_far
-    ∙ ap (λ (r : Run). ts ++ steps_in r.events now.guest) c.last
-    ∙ ap (λ (l : List Taken). ts ++ l) (steps_drains now.guest) ∙ append-nil ts in
+    let steps_all : steps_of_run m input g ≡ ts = steps_closed steps end within spent so_far in
     let lines_all : trace_of range (steps_of_run m input g) ≡ lines_from range 0 ts = trace_is range (steps_of_run m input g) ∙ ap (lines_from range 0) steps_all in
     let done : Finished (run_from m 0 input g).events (plain_end end) rest.ended start new before out =
     finished rest.ended out (progress m c.more c.is so_far) refl c.last made text none in
@@ -610,11 +632,11 @@ run_closed {stop} {range} {input} {start} {now} {new} {turn} {kept} {latest} {he
     }
 
 -- what the guest sent could not be written at the end
-pub run_broken : {stop : Bool} {range : Option (ℕ × ℕ)} {input : List ℕ} {start now new : GuestState} {turn : ℕ} {kept : List ℕ} {latest : List (Option Fault)} {held : List ℕ} {before written trace_before traced : Option (List ℕ)} (steps : ℕ) (end : Option Ended) → turn ≤ steps → (end ≡ None → steps ≤ turn)
-    → Turned stop range input start now turn end kept latest held before written trace_before traced
+pub run_broken : {stop : Bool} {range : Option (ℕ × ℕ)} {input : List ℕ} {start now new : GuestState} {turn : ℕ} {kept : List ℕ} {latest : List (Option Fault)} {counts : List ℕ} {held : List ℕ} {before written trace_before traced : Option (List ℕ)} (steps : ℕ) (end : Option Ended) → turn ≤ steps → (end ≡ None → steps ≤ turn)
+    → Turned stop range input start now turn end kept latest counts held before written trace_before traced
     → IsPartWay (drains now.guest) now new → 0 < length (held ++ (after (drains now.guest) now.guest).bytes)
     → BreaksOff (run_with stop range steps input start.guest) (run_from (turns_of stop steps input start.guest) 0 input start.guest).events start new
-run_broken {stop} {range} {input} {start} {now} {new} {turn} {kept} {latest} {held} {before} {written} {trace_before} {traced} steps end within spent so_far part some =
+run_broken {stop} {range} {input} {start} {now} {new} {turn} {kept} {latest} {counts} {held} {before} {written} {trace_before} {traced} steps end within spent so_far part some =
     let c = closes steps end within spent so_far in
     let m = turns_of stop steps input start.guest in
     let rest = rest_after end c.more turn kept now.guest in
@@ -682,7 +704,7 @@ not_none None b e so none = let no : false ≡ true = e ∙ ap not so in cc
 not_none (Some end) b e so none = cc
 
 -- turns that did not end the run
-pub unended : {stop : Bool} {range : Option (ℕ × ℕ)} {input : List ℕ} {start now : GuestState} {turn : ℕ} {end : Option Ended} {kept : List ℕ} {latest : List (Option Fault)} {held : List ℕ} {before written trace_before traced : Option (List ℕ)} → end ≡ None
-    → Turned stop range input start now turn end kept latest held before written trace_before traced → Turned stop range input start now turn None kept latest held before written trace_before traced
-unended {stop} {range} {input} {start} {now} {turn} {end} {kept} {latest} {held} {before} {written} {trace_before} {traced} none so_far =
-    subst (λ (e : Option Ended). Turned stop range input start now turn e kept latest held before written trace_before traced) none so_far
+pub unended : {stop : Bool} {range : Option (ℕ × ℕ)} {input : List ℕ} {start now : GuestState} {turn : ℕ} {end : Option Ended} {kept : List ℕ} {latest : List (Option Fault)} {counts : List ℕ} {held : List ℕ} {before written trace_before traced : Option (List ℕ)} → end ≡ None
+    → Turned stop range input start now turn end kept latest counts held before written trace_before traced → Turned stop range input start now turn None kept latest counts held before written trace_before traced
+unended {stop} {range} {input} {start} {now} {turn} {end} {kept} {latest} {counts} {held} {before} {written} {trace_before} {traced} none so_far =
+    subst (λ (e : Option Ended). Turned stop range input start now turn e kept latest counts held before written trace_before traced) none so_far

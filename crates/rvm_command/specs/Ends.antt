@@ -74,7 +74,7 @@ IsRunEnd a file input (Ok ended) before after trace_before trace_after report_be
     × IfOk (image_of a.guest.raw file) (λ i.
     (ended ≡ (run_of a i input).ended) × Appends before after (run_of a i input).written
     × Appends trace_before trace_after (concat (run_of a i input).lines)
-    × Appends report_before report_after (report_text a.report (run_of a i input).guest))
+    × Appends report_before report_after (report_text a.report i.1 (run_of a i input)))
 IsRunEnd a file input (Err r) before after trace_before trace_after report_before report_after =
     (IsLoadRefusal (image_of a.guest.raw file) a.guest.pages r × (after ≡ before) × (trace_after ≡ trace_before)
     × (report_after ≡ report_before))

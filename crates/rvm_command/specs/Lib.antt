@@ -6,6 +6,8 @@ pub mod Faults
 pub mod FaultTexts
 pub mod Trace
 pub mod Watched
+pub mod Coverage
+pub mod Counting
 pub mod Reports
 pub mod Turns
 pub mod Buffered

@@ -57,13 +57,14 @@ abbrev pub trace_of : Option (ℕ × ℕ) → List Taken → List (List ℕ)
 trace_of None ts = []
 trace_of (Some range) ts = lines_from (Some range) 0 ts
 
--- what a run leaves: the guest, the pages that it wrote, the bytes that it writes, how it ended, and the lines of its
--- trace
+-- what a run leaves: the guest, the pages that it wrote, the bytes that it writes, how it ended, the steps that it made,
+-- and the lines of its trace
 pub record Watched : Type 0 where
   pub guest : Guest
   pub pages : List ℕ
   pub written : List ℕ
   pub ended : Ended
+  pub steps : List Taken
   pub lines : List (List ℕ)
 
 -- how many turns a run makes at most that stops at the first fault, if it is asked to
@@ -81,6 +82,7 @@ run_with stop range steps input g =
       pages = all.pages;
       written = all.written;
       ended = end_at (fault_among stop [] (steps_of_run steps input g)) all.ended;
+      steps = steps_of_run turns input g;
       lines = trace_of range (steps_of_run turns input g);
     }
 

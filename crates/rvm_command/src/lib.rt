@@ -7,11 +7,12 @@
 //! worlds and their scripts, and on `rvm_arguments`. It must not know files, processes or the terminal.
 //!
 //! To be read in this order: `guest`, `refused`, `flush`, `output_buffer`, `fault`, `run`, `trace`, `latest_traps`,
-//! `watched`, `report`, `run_command`, `asm_command`, `dis_command`; `extended_command`, `extended_line`, `extended_answers`,
+//! `coverage`, `watched`, `report`, `run_command`, `asm_command`, `dis_command`; `extended_command`, `extended_line`, `extended_answers`,
 //! `extended_lines`, `extended_script`, `debug_command`; `script_refused`, `first_world`, `script_command`; `laws`.
 #![tactic(auto)]
 
 pub mod asm_command;
+mod coverage;
 pub mod debug_command;
 pub mod dis_command;
 mod extended_answers;

@@ -1,34 +1,49 @@
 //! What is reported of a run once it has ended.
 //!
 //! A signature has a line for each word of a range of RAM, as the run left it: its eight hexadecimal digits, in lower case.
+//! A coverage has the lines that `rvmove dis` lists of the image, each after a number: how often that word ran.
 
 ghost use Rattle.std.specs.Prelude.{◌≡◌, OnErr, OnOk};
 ghost use Rattle.std.specs.Io.KnownBytes.{Appends};
 ghost use Rattle.rvm_command.specs.Ends.{IsReported};
-ghost use Rattle.rvm_command.specs.Reports.{report_text, reported, signature, word_row};
+ghost use Rattle.rvm_asm.specs.Images.{pieces_of};
+ghost use Rattle.rvm_command.specs.Counting.{written_report, written_text};
+ghost use Rattle.rvm_command.specs.Reports.{signature, word_row};
 
+use crate::coverage::{Counts, write_coverage};
 use crate::trace::word_at;
 use rvm_arguments::{Report, ReportArguments, WordRange};
+use rvm_asm::Segment;
 use rvm_board::Debugged;
 use rvm_dis::Digits;
 use rvm_mem::Memory;
 use rvm_refusal::LinkFault;
 use std::io::Write;
 
+/// What is kept of a run for the report on it.
+#[derive(Drop)]
+pub(crate) struct Kept {
+    /// The segments of the image, if they are listed.
+    pub(crate) segments: Vec<Segment>,
+    /// How often each word of RAM ran, if that is counted.
+    pub(crate) counts: Counts,
+}
+
 /// Writes the report on a run that left this guest, if one is asked for, and flushes it. `LinkFault` if that fails, which
 /// is possible only if one is asked for.
 pub(crate) fn write_report<M: Memory, W: Write>(
     guest: &mut Debugged<M>,
     asked: &Option<ReportArguments>,
+    kept: &Kept,
     writer: &mut W,
 ) -> Result<(), LinkFault>
     ensures text { OnOk result (Appends (W.contents writer.old) (W.contents writer.new)
-        (report_text asked.now guest.old.guest)) }
+        (written_text asked.now (pieces_of kept.now.segments.items) kept.now.counts guest.old.guest)) }
     ensures guest { guest.new ≡ guest.old }
     ensures some { OnErr result (IsReported asked.now) }
 {
     match asked {
-        Some(asked) => write_flushed(guest, asked.report, writer),
+        Some(asked) => write_flushed(guest, asked.report, kept, writer),
         None => Ok(()),
     }
 }
@@ -38,13 +53,14 @@ pub(crate) fn write_report<M: Memory, W: Write>(
 fn write_flushed<M: Memory, W: Write>(
     guest: &mut Debugged<M>,
     report: Report,
+    kept: &Kept,
     writer: &mut W,
 ) -> Result<(), LinkFault>
     ensures text { OnOk result (Appends (W.contents writer.old) (W.contents writer.new)
-        (reported report guest.old.guest)) }
+        (written_report report (pieces_of kept.now.segments.items) kept.now.counts guest.old.guest)) }
     ensures guest { guest.new ≡ guest.old }
 {
-    write_reported(guest, report, writer)?;
+    write_reported(guest, report, kept, writer)?;
     Ok(writer.flush()?)
 }
 
@@ -52,14 +68,16 @@ fn write_flushed<M: Memory, W: Write>(
 fn write_reported<M: Memory, W: Write>(
     guest: &mut Debugged<M>,
     report: Report,
+    kept: &Kept,
     writer: &mut W,
 ) -> Result<(), LinkFault>
     ensures text { OnOk result (Appends (W.contents writer.old) (W.contents writer.new)
-        (reported report guest.old.guest)) }
+        (written_report report (pieces_of kept.now.segments.items) kept.now.counts guest.old.guest)) }
     ensures guest { guest.new ≡ guest.old }
 {
     match report {
         Report::Signature(range) => write_signature(guest, range, writer),
+        Report::Coverage => write_coverage(&kept.segments, &kept.counts, writer),
     }
 }
 

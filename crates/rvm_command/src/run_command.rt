@@ -1,27 +1,35 @@
 //! `rvmove run`: runs the guest of an image, and reports how that ended.
 
-ghost use Rattle.std.specs.Prelude.{◌≡◌, ◌⊎◌, ◌++◌, Result, OnErr, OnOk, IfOk, codes};
+ghost use Rattle.std.specs.Prelude.{◌≡◌, ◌⊎◌, ◌++◌, [], true, List, Result, OnErr, OnOk, IfErr, IfOk, codes, length};
 ghost use Rattle.std.specs.Io.KnownBytes.{Appends, Keeps};
 ghost use Rattle.rvm_arguments.specs.declared.arguments.StatusOf.TheVariants as tells;
 ghost use Rattle.rvm_command.specs.declared.refused.Refused.{Refused};
 ghost use Rattle.rvm_command.specs.declared.run.Ended.{Ended};
-ghost use Rattle.rvm_command.specs.Command.{end_text, image_of};
-ghost use Rattle.rvm_command.specs.Ends.{IsLoadable, IsRunEnd, IsTraced, RunHasStatus, Writes, run_status};
+ghost use Rattle.rvm_command.specs.Command.{end_text, guest_of, image_of};
+ghost use Rattle.rvm_command.specs.Ends.{IsFileRefusal, IsLoadable, IsRunEnd, IsTraced, RunHasStatus, Writes, run_status};
+ghost use Rattle.rvm_asm.specs.Images.{Piece};
+ghost use Rattle.rvm_command.specs.Counting.{AreRuns, Covers, is_coverage, is_covered};
 ghost use Rattle.rvm_command.specs.Reports.{report_text};
 ghost use Rattle.rvm_command.specs.Watched.{HasRun, run_with, traced_of};
 
+use crate::coverage::Counts;
 use crate::fault::write_fault;
-use crate::guest::load_guest;
+use crate::guest::{image_of, load_guest};
 use crate::refused::{Refused, tell};
-use crate::report::write_report;
+use crate::report::{Kept, write_report};
 use crate::run::Ended;
 use crate::watched::run_asked;
-use rvm_arguments::{RunArguments, StatusOf, TraceArguments};
+use rvm_arguments::{
+    GuestArguments, Report, ReportArguments, RunArguments, StatusOf, TraceArguments,
+};
 use rvm_board::Debugged;
-use rvm_mem::{Memory, PagedMemory};
-use rvm_refusal::LinkFault;
+use rvm_mem::{Memory, PAGE_SIZE, PagedMemory};
+use rvm_refusal::{LinkFault, Refusal};
 use std::alloc::Global;
 use std::io::Write;
+
+/// The number of words of a page.
+const PAGE_WORDS: u32 = PAGE_SIZE / 4;
 
 /// The verdict on a guest that halted with a status other than 0.
 const FAILED: u8 = 3;
@@ -159,29 +167,119 @@ fn run_image<M: PagedMemory + Drop, O: Write, T: Write, R: Write>(
         × (R.contents files.new.report ≡ R.contents files.old.report)) }
 {
     let mut guest = load_guest::<M>(alloc, &arguments.guest, image)?;
-    Ok(run_to_report(&mut guest, arguments, input, output, files)?)
+    run_loaded(alloc, &mut guest, arguments, image, input, output, files)
+}
+
+/// Runs a guest that was loaded. Returns how the run ended, or why it was refused.
+fn run_loaded<M: Memory, O: Write, T: Write, R: Write>(
+    alloc: Global,
+    guest: &mut Debugged<M>,
+    arguments: &RunArguments,
+    image: &[u8],
+    input: &[u8],
+    output: &mut O,
+    files: &mut RunFiles<T, R>,
+) -> Result<Ended, Refused>
+    requires loadable { IsLoadable (image_of arguments.now.guest.raw image.now) arguments.now.guest.pages }
+    requires guest { IfOk (image_of arguments.now.guest.raw image.now) (λ i.
+        guest.old.guest ≡ guest_of arguments.now.guest.harts arguments.now.guest.pages i.0 i.1) }
+    ensures end { IsRunEnd arguments.now image.now input.now result
+        (O.contents output.old) (O.contents output.new) (T.contents files.old.trace) (T.contents files.new.trace)
+        (R.contents files.old.report) (R.contents files.new.report) }
+{
+    let mut kept = keep(alloc, arguments, image)?;
+    Ok(run_to_report(guest, arguments, input, &mut kept, output, files)?)
+}
+
+/// What is kept of a run for the report that is asked for, before its first turn. Refuses with `OutOfMemory`.
+#[tactic(auto, using(crate::proofs::Covering::nothing_counted, crate::proofs::Covering::no_test))]
+fn keep(alloc: Global, arguments: &RunArguments, image: &[u8]) -> Result<Kept, Refused>
+    requires { IsLoadable (image_of arguments.now.guest.raw image.now) arguments.now.guest.pages }
+    ensures kept { IfOk result (λ k. is_covered arguments.now.report ≡ true →
+        IfOk (image_of arguments.now.guest.raw image.now) (λ i. Covers k.counts k.segments.items i.1)) }
+    ensures counts { IfOk result (λ k. AreRuns k.counts []) }
+    ensures refused { IfErr result (IsFileRefusal (image_of arguments.now.guest.raw image.now)) }
+{
+    if !is_covered(&arguments.report) {
+        return Ok(Kept {
+            segments: Vec::new(alloc),
+            counts: Counts::none(alloc),
+        });
+    }
+    keep_words(alloc, &arguments.guest, image)
+}
+
+/// The segments of an image, and a number for each word of RAM. Refuses with `OutOfMemory`.
+#[tactic(auto, using(crate::proofs::Covering::keeps, crate::proofs::Covering::none_ran))]
+fn keep_words(alloc: Global, guest: &GuestArguments, image: &[u8]) -> Result<Kept, Refused>
+    requires { IsLoadable (image_of guest.now.raw image.now) guest.now.pages }
+    ensures kept { IfOk result (λ k. IfOk (image_of guest.now.raw image.now) (λ i. Covers k.counts k.segments.items i.1)) }
+    ensures counts { IfOk result (λ k. AreRuns k.counts []) }
+    ensures refused { IfErr result (IsFileRefusal (image_of guest.now.raw image.now)) }
+{
+    let pages = guest.pages;
+    let program = image_of(alloc, guest.raw, image)?;
+    match Counts::new(alloc, PAGE_WORDS * pages) {
+        Ok(counts) => Ok(Kept {
+            segments: program.segments,
+            counts,
+        }),
+        Err(_) => Err(Refused::from(Refusal::OutOfMemory)),
+    }
+}
+
+/// Whether the coverage of a run is asked for.
+fn is_covered(asked: &Option<ReportArguments>) -> bool
+    ensures { result ≡ is_covered asked.now }
+{
+    match asked {
+        Some(asked) => is_coverage(asked.report),
+        None => false,
+    }
+}
+
+/// Whether a report is a coverage.
+fn is_coverage(report: Report) -> bool
+    ensures { result ≡ is_coverage report }
+{
+    match report {
+        Report::Signature(_) => false,
+        Report::Coverage => true,
+    }
 }
 
 /// Runs a guest as the arguments ask for, and writes the report, if it has one. `LinkFault` if a write fails.
+#[tactic(auto, using(crate::proofs::Covering::report_is))]
 fn run_to_report<M: Memory, O: Write, T: Write, R: Write>(
     guest: &mut Debugged<M>,
     arguments: &RunArguments,
     input: &[u8],
+    kept: &mut Kept,
     output: &mut O,
     files: &mut RunFiles<T, R>,
 ) -> Result<Ended, LinkFault>
+    requires counts { AreRuns kept.old.counts [] }
     ensures run { IfOk result (λ end. HasRun (run_with arguments.now.stop_at_fault (traced_of arguments.now.trace)
         arguments.now.steps input.now guest.old.guest) end guest.old guest.new
         (O.contents output.old) (O.contents output.new)
         (T.contents files.old.trace) (T.contents files.new.trace)) }
-    ensures report { OnOk result (Appends (R.contents files.old.report) (R.contents files.new.report)
-        (report_text arguments.now.report (run_with arguments.now.stop_at_fault (traced_of arguments.now.trace)
-        arguments.now.steps input.now guest.old.guest).guest)) }
+    ensures report { OnOk result ((pieces : List Piece)
+        → (is_covered arguments.now.report ≡ true → Covers kept.old.counts kept.old.segments.items pieces)
+        → Appends (R.contents files.old.report) (R.contents files.new.report)
+        (report_text arguments.now.report pieces (run_with arguments.now.stop_at_fault
+        (traced_of arguments.now.trace) arguments.now.steps input.now guest.old.guest))) }
     ensures some { OnErr result (Writes (run_with arguments.now.stop_at_fault (traced_of arguments.now.trace)
         arguments.now.steps input.now guest.old.guest) arguments.now.trace arguments.now.report) }
 {
-    let ended = run_to_end(guest, arguments, input, output, &mut files.trace)?;
-    write_report(guest, &arguments.report, &mut files.report)?;
+    let ended = run_to_end(
+        guest,
+        arguments,
+        input,
+        &mut kept.counts,
+        output,
+        &mut files.trace,
+    )?;
+    write_report(guest, &arguments.report, kept, &mut files.report)?;
     Ok(ended)
 }
 
@@ -191,16 +289,21 @@ fn run_to_end<M: Memory, O: Write, T: Write>(
     guest: &mut Debugged<M>,
     arguments: &RunArguments,
     input: &[u8],
+    counts: &mut Counts,
     output: &mut O,
     trace: &mut T,
 ) -> Result<Ended, LinkFault>
+    requires { AreRuns counts.old [] }
+    ensures counted { IfOk result (λ end. AreRuns counts.new (run_with arguments.now.stop_at_fault
+        (traced_of arguments.now.trace) arguments.now.steps input.now guest.old.guest).steps) }
+    ensures count { length counts.new ≡ length counts.old }
     ensures run { IfOk result (λ end. HasRun (run_with arguments.now.stop_at_fault (traced_of arguments.now.trace)
         arguments.now.steps input.now guest.old.guest) end guest.old guest.new
         (O.contents output.old) (O.contents output.new) (T.contents trace.old) (T.contents trace.new)) }
     ensures some { OnErr result (Writes (run_with arguments.now.stop_at_fault (traced_of arguments.now.trace)
         arguments.now.steps input.now guest.old.guest) arguments.now.trace arguments.now.report) }
 {
-    let ended = run_asked(guest, arguments, input, output, trace)?;
+    let ended = run_asked(guest, arguments, input, counts, output, trace)?;
     flush_trace(&arguments.trace, trace)?;
     Ok(ended)
 }

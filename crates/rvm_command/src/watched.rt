@@ -6,10 +6,12 @@ ghost use Rattle.std.specs.Io.KnownBytes.{Appends};
 ghost use Rattle.rvm_board.specs.declared.event.BoardEvent.TheVariants.{Step};
 ghost use Rattle.rvm_board.specs.Events.{answered, pc_of, step_reply};
 ghost use Rattle.rvm_command.specs.Buffered.{GoesOut};
+ghost use Rattle.rvm_command.specs.Counting.{AreRuns};
 ghost use Rattle.rvm_command.specs.Run.{IsAfter, IsPartWay, after, run_from};
 ghost use Rattle.rvm_command.specs.Turns.{between, drains_after, ends_turns, taken_by};
 ghost use Rattle.rvm_command.specs.Watched.{BreaksOff, HasRun, is_traced, lines_from, run_with, traced_of, turns_of};
 
+use crate::coverage::Counts;
 use crate::fault::Fault;
 use crate::latest_traps::LatestTraps;
 use crate::output_buffer::OutputBuffer;
@@ -22,15 +24,21 @@ use rvm_mem::Memory;
 use rvm_refusal::LinkFault;
 use std::io::Write;
 
-/// Runs a guest as the arguments ask for: turn by turn, if it has to stop at a fault or is traced. `LinkFault` if a
-/// write fails.
+/// Runs a guest as the arguments ask for: turn by turn, if it has to stop at a fault, is traced, or the words that run are
+/// counted, which is so if `counts` has numbers. `LinkFault` if a write fails.
+#[tactic(auto, using(crate::proofs::Covering::counted_anyway))]
 pub(crate) fn run_asked<M: Memory, O: Write, T: Write>(
     guest: &mut Debugged<M>,
     arguments: &RunArguments,
     input: &[u8],
+    counts: &mut Counts,
     output: &mut O,
     trace: &mut T,
 ) -> Result<Ended, LinkFault>
+    requires { AreRuns counts.old [] }
+    ensures counted { IfOk result (λ end. AreRuns counts.new (run_with arguments.now.stop_at_fault
+        (traced_of arguments.now.trace) arguments.now.steps input.now guest.old.guest).steps) }
+    ensures count { length counts.new ≡ length counts.old }
     ensures run { IfOk result (λ end. HasRun (run_with arguments.now.stop_at_fault (traced_of arguments.now.trace)
         arguments.now.steps input.now guest.old.guest) end guest.old guest.new
         (O.contents output.old) (O.contents output.new) (T.contents trace.old) (T.contents trace.new)) }
@@ -44,8 +52,8 @@ pub(crate) fn run_asked<M: Memory, O: Write, T: Write>(
         stop_at_fault: arguments.stop_at_fault,
         traced: traced_of(&arguments.trace),
     };
-    if asked.stop_at_fault || asked.traced.is_some() {
-        run_watched(guest, asked, input, output, trace)
+    if asked.stop_at_fault || asked.traced.is_some() || !counts.is_empty() {
+        run_watched(guest, asked, input, counts, output, trace)
     } else {
         run(guest, asked.steps, input, output)
     }
@@ -73,8 +81,8 @@ struct Asked {
 }
 
 /// Makes the turns of a run, as `run` does, one by one. If the run is asked to stop at a fault, it ends after the step
-/// that shows the first one. Writes a line to `trace` for each step whose turn is traced; turns are counted from 0.
-/// Returns how the run ended.
+/// that shows the first one. Writes a line to `trace` for each step whose turn is traced; turns are counted from 0. Counts
+/// how often each word of RAM ran, if `counts` has numbers. Returns how the run ended.
 ///
 /// `LinkFault` if a write fails, which is possible only if there was something to write, to the one writer or the
 /// other. The guest is then what the first events of the run left, up to some event.
@@ -82,9 +90,14 @@ fn run_watched<M: Memory, W: Write, T: Write>(
     guest: &mut Debugged<M>,
     asked: Asked,
     input: &[u8],
+    counts: &mut Counts,
     writer: &mut W,
     trace: &mut T,
 ) -> Result<Ended, LinkFault>
+    requires { AreRuns counts.old [] }
+    ensures counted { IfOk result (λ end. AreRuns counts.new
+        (run_with asked.stop_at_fault asked.traced asked.steps input.now guest.old.guest).steps) }
+    ensures count { length counts.new ≡ length counts.old }
     ensures run { IfOk result (λ end. HasRun
         (run_with asked.stop_at_fault asked.traced asked.steps input.now guest.old.guest) end guest.old guest.new
         (W.contents writer.old) (W.contents writer.new) (T.contents trace.old) (T.contents trace.new)) }
@@ -104,6 +117,7 @@ fn run_watched<M: Memory, W: Write, T: Write>(
         let pc = guest.pc(hart);
         let stepped = take_step(guest, turn, hart, asked.traced, trace)?;
         let reply = reply_of(pc, stepped);
+        counts.note(pc, &reply);
         let shown = traps.note(guest, hart, pc, &reply);
         turn += 1;
         end = end_of(&reply, shown, asked.stop_at_fault);

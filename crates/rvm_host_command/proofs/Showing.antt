@@ -1,8 +1,7 @@
 -- What the console showed, item by item.
-use Rattle.std.proofs.Common.{◌≡◌, ◌∙◌, ℕ, zero, suc, ◌+◌, ◌<◌, List, [], ◌∷◌, ◌++◌, append-nil, append_assoc, get_or, length, take, Option, Some, None, refl, ap}
+use Rattle.std.proofs.Common.{◌≡◌, ◌∙◌, ℕ, zero, suc, ◌+◌, ◌<◌, List, [], ◌∷◌, ◌++◌, append-nil, get_or, length, take, refl, ap}
 use Rattle.std.proofs.lemmas.List.{take_more}
 use Rattle.std.proofs.lemmas.List.Concat.{flat_map-append}
-use Rattle.std.specs.Io.KnownBytes.{Appends}
 use Rattle.rvm_recorder.specs.Entries.{PlainEntry}
 use Rattle.rvm_recorder.specs.Items.{all_of, dry_entry, rounds_in_turn, steps_in_turn}
 use Rattle.rvm_recorder.proofs.StepRuns.{all_push}
@@ -35,10 +34,3 @@ one_more items i x less is =
     ∙ ap console_of (all_push (take i items) (get_or items i x))
     ∙ flat_map-append taken_in (all_of (take i items)) (get_or items i x)
     ∙ ap (λ z. console_of (all_of (take i items)) ++ console_of z) is
-
--- one text was written, and then another
-pub appends_on : (a b c : Option (List ℕ)) (xs ys : List ℕ) → Appends a b xs → Appends b c ys → Appends a c (xs ++ ys)
-appends_on None b c xs ys p q = tt
-appends_on (Some xs0) None c xs ys p q = absurd p
-appends_on (Some xs0) (Some ys0) None xs ys p q = absurd q
-appends_on (Some xs0) (Some ys0) (Some zs0) xs ys p q = q ∙ ap (λ (l : List ℕ). l ++ ys) p ∙ append_assoc xs0 xs ys

@@ -1,16 +1,17 @@
 //! `rvmove host` and `rvmove tell`: a host in a process of its own, whose guest can move to hosts in other processes
-//! while it runs, and the command with which an operator tells it what to do; and `rvmove replay` of a journal that such a
-//! process kept. And the law that host processes are hosts of one world: whatever each of them did by itself, if each
-//! frame that came to it had been sent to it before, then together they made a run of a world, in which the guest is the
-//! guest of one board that never moves.
+//! while it runs, and the command with which an operator tells it what to do; and `rvmove replay` and
+//! `rvmove audit-journals` of the journals that such processes kept. And the law that host processes are hosts of one
+//! world: whatever each of them did by itself, if each frame that came to it had been sent to it before, then together they
+//! made a run of a world, in which the guest is the guest of one board that never moves.
 //!
 //! Stands on `rvm_cell` for the workers of a host, on `rvm_greeting` for greetings, on sockets of the runtime, and on
-//! `rvm_journal` and `rvm_recorder` for journals. It must not know files, but for the socket of operators
+//! `rvm_journal`, `rvm_recorder` and `rvm_audit` for journals. It must not know files, but for the socket of operators
 //! and the file of the host's own journal.
 //!
 //! To be read in this order: `fault`, `address`, `outbound`, `timed`, `door`, `process`, `meeting`, `peer`, `accepter`,
 //! `ticker`, `operators`, `answers`, `control`, `threads`, `turns`, `hosting`, `host_command`, `tell_command`;
-//! `journal_file`, `journal_hosts`, `console_of_journal`, `replay_command`; `laws`, which calls no code.
+//! `journal_file`, `journal_hosts`, `console_of_journal`, `replay_command`; `journal_headers`, `journal_world`,
+//! `journal_counts`, `journal_summary`, `journal_audit`; `laws`, which calls no code.
 #![tactic(auto)]
 
 mod accepter;
@@ -22,8 +23,13 @@ mod door;
 pub mod fault;
 pub mod host_command;
 pub mod hosting;
+pub mod journal_audit;
+mod journal_counts;
 pub mod journal_file;
+mod journal_headers;
 mod journal_hosts;
+mod journal_summary;
+mod journal_world;
 pub mod laws;
 mod meeting;
 pub mod operators;

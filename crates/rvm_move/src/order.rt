@@ -8,10 +8,9 @@ ghost use Rattle.rvm_core.specs.EventLines.{event_lines};
 ghost use Rattle.rvm_move.specs.Ended.{IsUntold};
 ghost use Rattle.rvm_move.specs.Orders.{IsUnordered, IsWritten};
 
-use rvm_audit::{Order, audit_in_runs};
+use rvm_audit::{Order, audit_in_runs, write_order as write_order_lines};
 use rvm_command::flush::flush;
 use rvm_command::refused::{Refused, tell};
-use rvm_core::write_event;
 use rvm_mem::PagedMemory;
 use rvm_recorder::Journal;
 use rvm_refusal::{LinkFault, Refusal};
@@ -55,18 +54,6 @@ fn write_whole<O: Write + Drop>(output: &mut BufWriter<O>, order: &Order) -> Res
         (writer_contents O.contents output.new) (event_lines 2 order.now)) }
     ensures out { OnOk result (is_flushed output.new) }
 {
-    write_lines(output, order)?;
+    write_order_lines(output, HOSTS, order)?;
     flush(output)
-}
-
-/// Writes the events of an order, a line each.
-#[tactic(auto, using(crate::proofs::Lines::no_lines, crate::proofs::Lines::line_more, crate::proofs::Lines::all_lines))]
-fn write_lines<W: Write>(writer: &mut W, order: &Order) -> Result<(), LinkFault>
-    ensures { OnOk result (Appends (W.contents writer.old) (W.contents writer.new) (event_lines 2 order.now)) }
-{
-    let mut left = order.events();
-    while let Some(event) = left.next() {
-        write_event(writer, HOSTS, &event)?;
-    }
-    Ok(())
 }

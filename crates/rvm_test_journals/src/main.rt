@@ -1,14 +1,15 @@
 //! Tests what hosts record, call by call: slices, room for entries, hosts that two seats call, what is refused for its
-//! size, and one order of two journals and of three. It prints what came of each, and repeats a call for which memory
+//! size, one order of two journals and of three, and journals in files. It prints what came of each, and repeats a call for which memory
 //! ran out, so that it prints the same whichever allocation fails. With a number as its argument, it puts two journals
 //! of this many entries in order instead; with `list` or `runs` and three numbers, two journals of steps among which
 //! frames come, as `runs` describes.
 //!
-//! To be read in this order: `asked`, `slices`, `sharing`, `sizes`, `orders`, `around`, `runs`.
+//! To be read in this order: `asked`, `slices`, `sharing`, `sizes`, `orders`, `around`, `runs`, `files`.
 #![tactic(auto)]
 
 mod around;
 mod asked;
+mod files;
 mod orders;
 mod runs;
 mod sharing;
@@ -30,6 +31,7 @@ fn main(rt: HostRuntime) {
                 && sizes::refuse_sizes(&rt).is_some()
                 && orders::put_in_order(&rt).is_some()
                 && around::order_three_journals(&rt).is_some()
+                && files::audit_files(&rt).is_some()
         }
     };
     if !is_whole {

@@ -123,10 +123,3 @@ fn an_audit_takes_up_to_eight_journals(rt: HostRuntime) -> Result<(), Fail> {
     assert!(rt; parse_args(rt.alloc(), &words).is_err());
     Ok(())
 }
-
-#[test]
-fn an_audit_takes_no_journal_twice(rt: HostRuntime) -> Result<(), Fail> {
-    let words = ["rvmove", "audit-journals", "a", "b", "a", "--image", "i"];
-    assert!(rt; parse_args(rt.alloc(), &words).is_err());
-    Ok(())
-}

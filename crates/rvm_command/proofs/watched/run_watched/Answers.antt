@@ -7,7 +7,7 @@ use Rattle.rvm_command.specs.Run.{IsAfter, IsPartWay, after, run_from}
 use Rattle.rvm_command.specs.Turns.{between}
 use Rattle.rvm_command.specs.Watched.{BreaksOff, run_with, turns_of}
 use Rattle.rvm_command.proofs.Runs.{on_err}
-use Rattle.rvm_command.proofs.Watching.{TurnMade, drain_failed, line_failed, none_of, none_turned, not_none, run_broken, run_closed, turn_there, turned_more, unended}
+use Rattle.rvm_command.proofs.Watching.{TurnMade, drain_failed, line_failed, none_of, none_turned, not_none, run_broken, run_closed, run_counted, turn_there, turned_more, unended}
 use Rattle.rvm_command.proofs.watched.run_watched.Goals.{then-loop-turn-test+else-is_none, else-loop-turn-test}
 use Rattle.rvm_command.proofs.watched.run_watched.Goals as goal
 
@@ -16,7 +16,8 @@ loop-turn-init g c =
     record {
       next = omega arith;
       turn = omega arith;
-      turned = rw c.new-buffer.ensures (none_turned c.args.asked.stop_at_fault c.args.asked.traced c.args.input.now c.args.guest.now c.new-traps.result (g.W.Write.contents c.args.writer.now) (g.T.Write.contents c.args.trace.now) c.new-traps.ensures);
+      sized = refl;
+      turned = rw c.new-buffer.ensures (none_turned c.args.asked.stop_at_fault c.args.asked.traced c.args.input.now c.args.guest.now c.new-traps.result c.args.counts.now (g.W.Write.contents c.args.writer.now) (g.T.Write.contents c.args.trace.now) c.new-traps.ensures c.requires);
     }
 
 pub pc-pc-requires : goal.pc-pc-requires
@@ -63,7 +64,8 @@ loop-turn-preserved g c =
     record {
       next = c.feed-next.ensures.within;
       turn = omega (arith, c.loop-turn-test.true);
-      turned = turned_more c.drain_between.new.guest below (unended none c.loop-turn.invariant.turned) this c.pc-pc.ensures c.note-shown.ensures.shown c.note-shown.ensures.noted c.in_ok-stepped.ensures.line
+      sized = c.note.ensures.count ∙ c.loop-turn.invariant.sized;
+      turned = turned_more c.drain_between.new.guest below (omega (arith, c.loop-turn-test.true)) (unended none c.loop-turn.invariant.turned) this c.note.ensures.noted c.pc-pc.ensures c.note-shown.ensures.shown c.note-shown.ensures.noted c.in_ok-stepped.ensures.line
           (subst (λ (x : GuestState). IsAfter (between end turns x.guest) x c.drain_between.new.guest) c.note-shown.ensures.guest c.in_ok-drain_between.ensures.guest)
           (subst (λ (x : GuestState). GoesOut (after (between end turns x.guest) x.guest).bytes c.loop-turn.buffer c.drain_between.new.buffer (g.W.Write.contents c.loop-turn.writer) (g.W.Write.contents c.drain_between.new.writer)) c.note-shown.ensures.guest c.in_ok-drain_between.ensures.written);
     }
@@ -101,6 +103,12 @@ returns-in_err-drain-clause-broken g c =
     (run_broken asked.steps c.loop-turn.end c.loop-turn.invariant.turn
     (elim c.loop-turn-test.branch [ then-loop-turn-test+else-is_none w ↦ (λ none. absurd (not_none c.loop-turn.end w.is_none.result w.is_none.ensures w.if-is_none.false none)) | else-loop-turn-test w ↦ (λ none. omega (arith, w.loop-turn-test.false)) ])
     c.loop-turn.invariant.turned c.in_err-drain.ensures.part c.in_err-drain.ensures.err)
+
+pub returns-clause-counted : goal.returns-clause-counted
+returns-clause-counted g c =
+    run_counted c.args.asked.steps c.loop-turn.end c.loop-turn.invariant.turn
+    (elim c.loop-turn-test.branch [ then-loop-turn-test+else-is_none w ↦ (λ none. absurd (not_none c.loop-turn.end w.is_none.result w.is_none.ensures w.if-is_none.false none)) | else-loop-turn-test w ↦ (λ none. omega (arith, w.loop-turn-test.false)) ])
+    c.loop-turn.invariant.turned
 
 pub returns-clause-run : goal.returns-clause-run
 returns-clause-run g c =

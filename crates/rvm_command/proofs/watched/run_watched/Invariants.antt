@@ -1,4 +1,4 @@
-use Rattle.std.proofs.Common.{◌-◌, ◌≤◌, length, drop}
+use Rattle.std.proofs.Common.{◌≡◌, ◌-◌, ◌≤◌, length, drop}
 use Rattle.rvm_command.proofs.Watching.{Turned}
 use Rattle.rvm_command.proofs.watched.run_watched.Given as goal
 
@@ -8,7 +8,8 @@ invariant-loop-turn g l =
     record {
       next : l.next ≤ length l.input;
       turn : l.turn ≤ l.asked.steps;
-      turned : Turned l.asked.stop_at_fault l.asked.traced l.input l.fn.guest l.guest l.turn l.end (drop l.next l.input) l.traps l.buffer (g.W.Write.contents l.fn.writer) (g.W.Write.contents l.writer) (g.T.Write.contents l.fn.trace) (g.T.Write.contents l.trace);
+      sized : length l.counts ≡ length l.fn.counts;
+      turned : Turned l.asked.stop_at_fault l.asked.traced l.input l.fn.guest l.guest l.turn l.end (drop l.next l.input) l.traps l.counts l.buffer (g.W.Write.contents l.fn.writer) (g.W.Write.contents l.writer) (g.T.Write.contents l.fn.trace) (g.T.Write.contents l.trace);
     }
 
 abbrev pub decreases-loop-turn : goal.decreases-loop-turn

@@ -2,7 +2,8 @@ use Rattle.std.proofs.Common.{rules, ◌≡◌, take, get_or, subst, sym}
 use Rattle.std.specs.Io.KnownBytes.{Appends}
 use Rattle.rvm_recorder.specs.Items.{all_of}
 use Rattle.rvm_host_command.specs.Consoles.{console_of}
-use Rattle.rvm_host_command.proofs.Showing.{appends_on, one_more}
+use Rattle.std.proofs.KnownBytes.{Appends-trans}
+use Rattle.rvm_host_command.proofs.Showing.{one_more}
 use Rattle.rvm_host_command.proofs.console_of_journal.write_console.Goals as goal
 
 pub loop-item-preserved : goal.loop-item-preserved
@@ -16,4 +17,4 @@ loop-item-preserved g c =
     let is : get_or items i x ≡ x = sym c.item-item.is in
     let more = one_more items i x c.loop-item-test.true is in
     let written : Appends mid after (console_of x) = search rules in
-    subst (Appends before after) (sym more) (appends_on before mid after (console_of (all_of (take i items))) (console_of x) c.loop-item.invariant written)
+    subst (Appends before after) (sym more) (Appends-trans before mid after (console_of (all_of (take i items))) (console_of x) c.loop-item.invariant written)

@@ -2,7 +2,8 @@ use Rattle.std.proofs.Common.{rules, ◌≡◌, take, get_or, subst, sym}
 use Rattle.std.specs.Io.KnownBytes.{Appends}
 use Rattle.rvm_recorder.specs.Items.{all_of}
 use Rattle.rvm_move.specs.Answers.{answers_text}
-use Rattle.rvm_move.proofs.Answered.{appends_on, one_more}
+use Rattle.std.proofs.KnownBytes.{Appends-trans}
+use Rattle.rvm_move.proofs.Answered.{one_more}
 use Rattle.rvm_move.proofs.answers.write_each.Goals as goal
 
 pub loop-item-preserved : goal.loop-item-preserved
@@ -16,4 +17,4 @@ loop-item-preserved g c =
     let is : get_or items i x ≡ x = sym c.item-item.is in
     let more = one_more items i x c.loop-item-test.true is in
     let written : Appends mid after (answers_text x) = search rules in
-    subst (Appends before after) (sym more) (appends_on before mid after (answers_text (all_of (take i items))) (answers_text x) c.loop-item.invariant written)
+    subst (Appends before after) (sym more) (Appends-trans before mid after (answers_text (all_of (take i items))) (answers_text x) c.loop-item.invariant written)

@@ -1,0 +1,138 @@
+//! Whether journals in files are those of hosts of one world.
+
+ghost use Rattle.std.specs.Prelude.{◌≡◌, ◌≤◌, IfOk, OnOk, Some, length};
+ghost use Rattle.rvm_journal.specs.Headers.{IsRanged};
+ghost use Rattle.rvm_host_command.specs.Audited.{AreOfWorld, HasHeaderOf, HaveHeadersOf, IsOnlyOne, header_number, is_wanted};
+
+use crate::answers::letter_of;
+use crate::journal_file::{FileFault, JournalFile, JournalsFault};
+use rvm_journal::{Header, read_header};
+
+/// Which journal is looked for.
+#[derive(Clone, Copy, Debug, PartialEq, Eq)]
+pub(crate) enum Wanted {
+    /// The one whose host began with a guest.
+    WithGuest,
+    /// The one of this host.
+    OfHost(u8),
+}
+
+/// Checks that journals are those of hosts of one world: each has a header; no two are of one host; exactly one is of a
+/// host that began with a guest, and each other one tells as many hosts as that one, and the same number of the world, or
+/// 0. Returns the number of hosts.
+pub(crate) fn hosts_of_world(files: &[JournalFile<'_>]) -> Result<u8, JournalsFault>
+    ensures world { IfOk result (AreOfWorld files.now) }
+    ensures range { IfOk result (λ hosts. hosts ≤ 8) }
+{
+    check_hosts(files)?;
+    let Some(first) = index_of(files, Wanted::WithGuest)? else {
+        return Err(JournalsFault::NoGuest);
+    };
+    let opening = header_number(files, first)?;
+    check_headers(files, opening.hosts, opening.world)?;
+    Ok(opening.hosts)
+}
+
+/// Checks that each journal has a header, and that no two are of one host.
+fn check_hosts(files: &[JournalFile<'_>]) -> Result<(), JournalsFault> {
+    for host in 0..8 {
+        let _only = index_of(files, Wanted::OfHost(host))?;
+    }
+    Ok(())
+}
+
+/// The index of the one journal that is wanted; none if no journal is. Fails if two are.
+#[tactic(auto, using(crate::proofs::OnlyOne::first_found, crate::proofs::OnlyOne::none_more, crate::proofs::OnlyOne::some_more))]
+pub(crate) fn index_of(
+    files: &[JournalFile<'_>],
+    wanted: Wanted,
+) -> Result<Option<usize>, JournalsFault>
+    ensures { IfOk result (IsOnlyOne files.now wanted) }
+{
+    let mut found = None;
+    for index in 0..files.len() {
+        found = match (is_wanted_at(files, index, wanted)?, found) {
+            (false, found) => found,
+            (true, None) => Some(index),
+            (true, Some(_)) => return Err(JournalsFault::File(index, second_of(wanted))),
+        };
+    }
+    Ok(found)
+}
+
+/// Whether the journal with this index is wanted.
+fn is_wanted_at(
+    files: &[JournalFile<'_>],
+    index: usize,
+    wanted: Wanted,
+) -> Result<bool, JournalsFault>
+    ensures { IfOk result (λ is. is ≡ is_wanted wanted (header_number files.now index)) }
+{
+    let header = header_number(files, index)?;
+    Ok(is_wanted(wanted, &header))
+}
+
+/// Whether the journal with this header is wanted.
+fn is_wanted(wanted: Wanted, header: &Header) -> bool
+    ensures { result ≡ is_wanted wanted (Some header.now) }
+{
+    match wanted {
+        Wanted::WithGuest => header.guest.is_some(),
+        Wanted::OfHost(host) => header.host == host,
+    }
+}
+
+/// What is wrong with a second journal that is wanted.
+fn second_of(wanted: Wanted) -> FileFault {
+    match wanted {
+        Wanted::WithGuest => FileFault::SecondGuest,
+        Wanted::OfHost(host) => FileFault::SameHost(letter_of(host)),
+    }
+}
+
+/// Reads the header of the journal with this index.
+pub(crate) fn header_number(
+    files: &[JournalFile<'_>],
+    index: usize,
+) -> Result<Header, JournalsFault>
+    ensures header { IfOk result (λ header. header_number files.now index ≡ Some header) }
+    ensures range { IfOk result IsRanged }
+{
+    let Some(file) = files.get(index) else {
+        return Err(JournalsFault::NoGuest);
+    };
+    match read_header(&file.bytes) {
+        Some(header) => Ok(header),
+        None => Err(JournalsFault::File(index, FileFault::NoHeader)),
+    }
+}
+
+/// Checks that each journal is of a world with this number of hosts, and tells this number of the world, or 0.
+fn check_headers(files: &[JournalFile<'_>], hosts: u8, world: u64) -> Result<(), JournalsFault>
+    ensures { OnOk result (HaveHeadersOf files.now (length files.now) hosts world) }
+{
+    for index in 0..files.len() {
+        check_header(files, index, hosts, world)?;
+    }
+    Ok(())
+}
+
+/// Checks that the journal with this index is of a world with this number of hosts, and tells this number of the world,
+/// or 0.
+fn check_header(
+    files: &[JournalFile<'_>],
+    index: usize,
+    hosts: u8,
+    world: u64,
+) -> Result<(), JournalsFault>
+    ensures { OnOk result (HasHeaderOf files.now hosts world index) }
+{
+    let header = header_number(files, index)?;
+    if header.hosts != hosts {
+        return Err(JournalsFault::File(index, FileFault::OtherHosts));
+    }
+    if header.world != 0 && header.world != world {
+        return Err(JournalsFault::File(index, FileFault::OtherWorld));
+    }
+    Ok(())
+}

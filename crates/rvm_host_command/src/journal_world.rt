@@ -1,0 +1,117 @@
+//! All hosts of a world do again what their journals tell.
+
+ghost use Rattle.std.specs.Prelude.{◌≡◌, ◌∷◌, ◌++◌, ◌≤◌, [], IfOk, OnOk, length};
+ghost use Rattle.rvm_host_command.specs.Audited.{AllDone, AreReplayed, HasDone, IsHostAt, IsIdle};
+
+use crate::journal_file::{FileFault, JournalFile, JournalsFault};
+use crate::journal_headers::{Wanted, header_number, hosts_of_world, index_of};
+use crate::journal_hosts::{open_host, replay_bytes};
+use rvm_journal::JournalFault;
+use rvm_mem::PagedMemory;
+use rvm_recorder::Recorded;
+use std::alloc::Global;
+
+/// Makes the hosts of the world whose journals these are, in order, and has each do what its journal tells; a host
+/// without a journal does nothing. Fails if the journals are not those of hosts of one world, if one of them is refused,
+/// or if memory runs out.
+pub(crate) fn replay_all<M: PagedMemory + Drop>(
+    alloc: Global,
+    files: &[JournalFile<'_>],
+    image: &[u8],
+) -> Result<Vec<Recorded<M>>, JournalsFault>
+    ensures done { IfOk result (λ all. AreReplayed files.now image.now all.items) }
+    ensures few { IfOk result (λ all. length all.items ≤ 8) }
+{
+    let hosts = hosts_of_world(files)?;
+    let mut all = Vec::new(alloc);
+    match replay_each(alloc, files, image, hosts, &mut all) {
+        Ok(()) => Ok(all),
+        Err(fault) => {
+            drop(all);
+            Err(fault)
+        }
+    }
+}
+
+/// Makes the hosts of a world that has this many, in order, and has each do what its journal tells.
+#[tactic(auto, using(crate::proofs::AllHosts::none_done))]
+fn replay_each<M: PagedMemory + Drop>(
+    alloc: Global,
+    files: &[JournalFile<'_>],
+    image: &[u8],
+    hosts: u8,
+    all: &mut Vec<Recorded<M>>,
+) -> Result<(), JournalsFault>
+    requires { all.old.items ≡ [] }
+    ensures each { OnOk result (AllDone files.now image.now hosts all.new.items) }
+    ensures long { OnOk result (length all.new.items ≡ hosts) }
+{
+    for host in 0..hosts {
+        let recorded = replay_host(alloc, files, image, hosts, host)?;
+        keep(all, recorded)?;
+    }
+    Ok(())
+}
+
+/// Appends a host to those that are kept.
+fn keep<M: PagedMemory + Drop>(
+    all: &mut Vec<Recorded<M>>,
+    recorded: Recorded<M>,
+) -> Result<(), JournalsFault>
+    ensures { OnOk result (all.new.items ≡ all.old.items ++ recorded ∷ []) }
+{
+    match all.push(recorded) {
+        Ok(()) => Ok(()),
+        Err(_) => Err(JournalsFault::OutOfMemory),
+    }
+}
+
+/// Makes a host, and has it do what its journal tells, if it has one.
+fn replay_host<M: PagedMemory + Drop>(
+    alloc: Global,
+    files: &[JournalFile<'_>],
+    image: &[u8],
+    hosts: u8,
+    host: u8,
+) -> Result<Recorded<M>, JournalsFault>
+    ensures { IfOk result (HasDone files.now image.now hosts host) }
+{
+    match index_of(files, Wanted::OfHost(host))? {
+        Some(index) => replay_file(alloc, files, index, image),
+        None => idle_host(alloc, hosts, host),
+    }
+}
+
+/// Makes a host that does nothing.
+fn idle_host<M: PagedMemory + Drop>(
+    alloc: Global,
+    hosts: u8,
+    host: u8,
+) -> Result<Recorded<M>, JournalsFault>
+    ensures { IfOk result (IsIdle hosts host) }
+{
+    match open_host(alloc, None, hosts, host) {
+        Ok(recorded) => Ok(recorded),
+        Err(_) => Err(JournalsFault::NoGuest),
+    }
+}
+
+/// Makes the host of the journal with this index, and has it do what the journal tells.
+fn replay_file<M: PagedMemory + Drop>(
+    alloc: Global,
+    files: &[JournalFile<'_>],
+    index: usize,
+    image: &[u8],
+) -> Result<Recorded<M>, JournalsFault>
+    ensures { IfOk result (IsHostAt files.now image.now index) }
+{
+    let header = header_number(files, index)?;
+    let Some(file) = files.get(index) else {
+        return Err(JournalsFault::NoGuest);
+    };
+    match replay_bytes(alloc, &header, &file.bytes, image) {
+        Ok(recorded) => Ok(recorded),
+        Err(FileFault::Journal(JournalFault::OutOfMemory)) => Err(JournalsFault::OutOfMemory),
+        Err(fault) => Err(JournalsFault::File(index, fault)),
+    }
+}
