@@ -1,10 +1,10 @@
 -- The checks of a file, one after the other.
-use Rattle.std.proofs.Common.{◌≡◌, ◌∙◌, ◌<◌, ◌≤◌, ℕ, List, length, true, false, Option, Some, None, Ok, Err, ap, arith, refl, sym}
+use Rattle.std.proofs.Common.{◌≡◌, ◌∙◌, ◌<◌, ◌≤◌, ℕ, List, length, true, false, Option, Some, None, Err, ap, arith, refl, sym}
 use Rattle.std.proofs.lemmas.Bool.Decides.{nat_tests}
 use Rattle.std.specs.Prelude.{nat_lt}
 use Rattle.rvm_elf.specs.File.{checked, is_elf, is_riscv32}
 use Rattle.rvm_elf.specs.declared.error.ReadError.TheVariants.{BadMagic, NotRiscV32, Truncated}
-use Rattle.rvm_program.specs.ElfFaults.{IsElfFault, IsIdentityFault, IsTableFault, elf_error, table_checked}
+use Rattle.rvm_program.specs.ElfFaults.{IsElfFault, IsIdentityFault, IsTableFault, table_checked}
 use Rattle.rvm_program.specs.declared.headers.ElfFault.{ElfFault}
 
 -- a file without the magic bytes

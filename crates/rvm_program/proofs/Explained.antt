@@ -1,7 +1,9 @@
--- How a command ended whose report was kept in memory.
-use Rattle.std.proofs.Common.{◌≡◌, ◌<◌, ℕ, zero, suc, List, [], Option, Some, inl, inr, refl, subst, arith}
+-- How a command ended whose report was kept in memory, and a host that is explained.
+use Rattle.std.proofs.Common.{◌≡◌, ◌<◌, ℕ, zero, suc, List, [], Option, Some, Result, Ok, Err, inl, inr, refl, subst, sym, arith}
+use Rattle.std.specs.Prelude.{IfOk, OnErr}
 use Rattle.rvm_arguments.specs.declared.arguments.Arguments.{Arguments}
-use Rattle.rvm_program.specs.Ended.{HasEnded, Written, written}
+use Rattle.rvm_arguments.specs.declared.arguments.HostArguments.{HostArguments}
+use Rattle.rvm_program.specs.Ended.{HasEnded, HostEnded, Written, written}
 use Rattle.rvm_program.specs.Files.{Named}
 use Rattle.rvm_program.specs.Performed.{HasFailed, HasFailedEither}
 
@@ -31,3 +33,10 @@ unpassed files created a script output errors held report status none done other
     (subst (λ h. status ≡ 0 → HasEnded files created a 0 script output (written (Some h) (Some report))) none done)
     (subst (λ h. 1 < status → HasEnded files created a status script output (written (Some h) (Some report))) none others)
     (subst (λ h. status ≡ 1 → HasFailed files created a script output (written (Some h) (Some report))) none failed)
+
+-- a host whose report was written has the status that it returned, and one whose report was not has the status 1
+pub host_has_ended : {F : Type 0} (files : Named) (a : HostArguments) (output : Written) (s : ℕ) (told : Result ℕ F)
+    → IfOk told (λ status. HostEnded files a status output) → IfOk told (λ status. s ≡ status) → OnErr told (s ≡ 1)
+    → HostEnded files a s output
+host_has_ended files a output s (Ok status) ended is none = subst (λ n. HostEnded files a n output) (sym is) ended
+host_has_ended files a output s (Err fault) none is one = subst (λ n. HostEnded files a n output) (sym one) tt

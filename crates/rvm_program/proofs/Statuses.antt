@@ -187,10 +187,3 @@ pub unbegun : {X F : Type 0} (files created : Named) (a : Arguments) (script : O
 unbegun files created a script output why (Ok x) reason = tt
 unbegun files created a script output why (Err e) reason =
     (1, refused_text (refused why) ++ codes "\n", inr (record { why = why; reason = reason; told = refl; status_is = refl }))
-
--- a host whose report was written has the status that it returned, and one whose report was not has the status 1
-pub host_has_ended : {F : Type 0} (files : Named) (a : HostArguments) (output : Written) (s : ℕ) (told : Result ℕ F)
-    → IfOk told (λ status. HostEnded files a status output) → IfOk told (λ status. s ≡ status) → OnErr told (s ≡ 1)
-    → HostEnded files a s output
-host_has_ended files a output s (Ok status) ended is none = subst (λ n. HostEnded files a n output) (sym is) ended
-host_has_ended files a output s (Err fault) none is one = subst (λ n. HostEnded files a n output) (sym one) tt

@@ -4,7 +4,7 @@ use Rattle.std.proofs.lemmas.List.{take_all}
 use Rattle.std.specs.Str.{IsValidUpTo}
 use Rattle.std.specs.Prelude.{IfSome}
 use Rattle.rvm_program.specs.declared.defect.Defect.{Defect}
-use Rattle.rvm_program.specs.declared.defect.Defect.TheVariants.{File, LongImage, SameBytes, TooLong}
+use Rattle.rvm_program.specs.declared.defect.Defect.TheVariants.{File, SameBytes}
 use Rattle.rvm_program.specs.declared.file_fault.FileFault.{FileFault}
 use Rattle.rvm_program.specs.declared.line_fault.LineDefect.{LineDefect}
 use Rattle.rvm_program.specs.declared.line_fault.LineFault.{LineFault}

@@ -1,5 +1,5 @@
 -- What is wrong with an ELF file, and what a report says of it.
-use Rattle.std.specs.Prelude.{◌≡◌, ◌≢◌, ℕ, ◌+◌, ◌*◌, ◌<◌, Bool, true, false, ◌||◌, ◌==◌, nat_lt, if◌then◌else◌, List, ◌++◌, Option, Some, None, Result, Ok, Err, codes, length, slice_index}
+use Rattle.std.specs.Prelude.{◌≡◌, ◌≢◌, ℕ, ◌+◌, ◌*◌, ◌<◌, true, false, ◌||◌, ◌==◌, nat_lt, if◌then◌else◌, List, [], ◌++◌, Option, Some, None, Result, Ok, Err, codes, length, slice_index}
 use Rattle.std.specs.Fmt.{decimal}
 use Rattle.rvm_elf.specs.File.{checked, e_machine, e_phentsize, e_phnum, e_phoff, e_type, header_at, header_checked, headers_checked, is_elf, is_riscv32, lacks_headers}
 use Rattle.rvm_elf.specs.declared.error.ReadError.{ReadError}
@@ -106,25 +106,62 @@ AreHeaderFaults file first count (Some fault) =
     (headers_checked count first file ≡ Err (elf_error fault))
     × ((i : ℕ) × IsAt fault i × IsFirstHeader file first i (elf_error fault))
 
+-- the words of a report before the number that it names, or all of them if it names none
+abbrev pub elf_before : ElfFault → List ℕ
+elf_before NoMagic = codes "this is no ELF file: assemble or link it, or give --raw for plain bytes"
+elf_before (ShortHeader n) = codes "this has "
+elf_before (Class n) = codes "this is not for 32-bit machines (class "
+elf_before (ByteOrder n) = codes "this is not little-endian (byte order "
+elf_before (Version n) = codes "this has version "
+elf_before (Machine n) = codes "this is for machine "
+elf_before Object = codes "this is an object file: link it (docs/BOARD.md)"
+elf_before Shared = codes "this is a library, or a program for any address: link it without -shared and -pie (docs/BOARD.md)"
+elf_before (Kind n) = codes "this has type "
+elf_before (HeaderSize n) = codes "this has program headers of "
+elf_before (TooMany n) = codes "this has "
+elf_before ShortTable = codes "this ends before its program headers do: it was cut off"
+elf_before (MoreBytes n) = codes "program header "
+elf_before (ShortSegment n) = codes "this ends before the bytes of program header "
+
+-- the number that a report names, if it names one
+abbrev pub elf_number : ElfFault → Option ℕ
+elf_number NoMagic = None
+elf_number (ShortHeader n) = Some n
+elf_number (Class n) = Some n
+elf_number (ByteOrder n) = Some n
+elf_number (Version n) = Some n
+elf_number (Machine n) = Some n
+elf_number Object = None
+elf_number Shared = None
+elf_number (Kind n) = Some n
+elf_number (HeaderSize n) = Some n
+elf_number (TooMany n) = Some n
+elf_number ShortTable = None
+elf_number (MoreBytes n) = Some n
+elf_number (ShortSegment n) = Some n
+
+-- the words of a report after the number that it names
+abbrev pub elf_after : ElfFault → List ℕ
+elf_after NoMagic = []
+elf_after (ShortHeader n) = codes " bytes, and an ELF header has 52: it was cut off"
+elf_after (Class n) = codes "): build it for 32-bit RISC-V"
+elf_after (ByteOrder n) = codes "): build it for 32-bit RISC-V"
+elf_after (Version n) = codes " of the format, and not 1"
+elf_after (Machine n) = codes ", and not for 243, RISC-V"
+elf_after Object = []
+elf_after Shared = []
+elf_after (Kind n) = codes ", and a program has 2: link it (docs/BOARD.md)"
+elf_after (HeaderSize n) = codes " bytes, and not of 32"
+elf_after (TooMany n) = codes " program headers, and at most 16 are read"
+elf_after ShortTable = []
+elf_after (MoreBytes n) = codes " (from 0) is larger in the file than in memory"
+elf_after (ShortSegment n) = codes " (from 0): it was cut off"
+
+-- words around a number, if there is one
+abbrev pub around : (number : Option ℕ) → (before after : List ℕ) → List ℕ
+around None before after = before
+around (Some n) before after = before ++ decimal n ++ after
+
 -- what a report says of a file with a fault
 abbrev pub elf_text : ElfFault → List ℕ
-elf_text NoMagic = codes "this is no ELF file: assemble or link it, or give --raw for plain bytes"
-elf_text (ShortHeader n) = codes "this has " ++ decimal n ++ codes " bytes, and an ELF header has 52: it was cut off"
-elf_text (Class n) =
-    codes "this is not for 32-bit machines (class " ++ decimal n ++ codes "): build it for 32-bit RISC-V"
-elf_text (ByteOrder n) =
-    codes "this is not little-endian (byte order " ++ decimal n ++ codes "): build it for 32-bit RISC-V"
-elf_text (Version n) = codes "this has version " ++ decimal n ++ codes " of the format, and not 1"
-elf_text (Machine n) = codes "this is for machine " ++ decimal n ++ codes ", and not for 243, RISC-V"
-elf_text Object = codes "this is an object file: link it (docs/BOARD.md)"
-elf_text Shared =
-    codes "this is a library, or a program for any address: link it without -shared and -pie (docs/BOARD.md)"
-elf_text (Kind n) = codes "this has type " ++ decimal n ++ codes ", and a program has 2: link it (docs/BOARD.md)"
-elf_text (HeaderSize n) = codes "this has program headers of " ++ decimal n ++ codes " bytes, and not of 32"
-elf_text (TooMany n) =
-    codes "this has " ++ decimal n ++ codes " program headers, and at most 16 are read"
-elf_text ShortTable = codes "this ends before its program headers do: it was cut off"
-elf_text (MoreBytes i) =
-    codes "program header " ++ decimal i ++ codes " (from 0) is larger in the file than in memory"
-elf_text (ShortSegment i) =
-    codes "this ends before the bytes of program header " ++ decimal i ++ codes " (from 0): it was cut off"
+elf_text f = around (elf_number f) (elf_before f) (elf_after f)

@@ -12,7 +12,7 @@ pub record TellsRefusal (report : List ℕ) : Type 0 where
 
 -- what is said if nothing is found to be wrong with the files
 abbrev pub unfound_words : Unfound → List ℕ
-unfound_words unfound.Cause = codes "nothing wrong was found with the files"
+unfound_words unfound.Cause = codes "nothing wrong was found with the files; a device or a pipe is not read again"
 unfound_words unfound.Memory = codes "memory ran out: give this process more"
 unfound_words unfound.Line = codes "the text cannot be read again, so its line is not shown"
 unfound_words unfound.InputLine = codes "standard input: this is no line of a script (docs/SCRIPTS.md)"

@@ -10,7 +10,7 @@ use rvm_refusal::Refusal;
 use std::fmt;
 
 /// What is wrong with a file.
-#[derive(Clone, Copy, Debug, PartialEq, Eq)]
+#[derive(Clone, Copy, Debug)]
 pub(crate) enum Defect {
     /// The file cannot be opened, read or written.
     File(FileFault),

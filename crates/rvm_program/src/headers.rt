@@ -2,7 +2,7 @@
 
 ghost use Rattle.std.specs.Prelude.{◌≡◌, ◌≢◌, ◌+◌, ◌*◌, ◌≤◌, ◌<◌, length};
 ghost use Rattle.rvm_elf.specs.File.{field, is_elf};
-ghost use Rattle.rvm_program.specs.ElfFaults.{AreHeaderFaults, IsElfFault, IsHeaderFault, IsHeaderSizeFault, IsIdentityFault, IsKindFault, IsTableFault, elf_error};
+ghost use Rattle.rvm_program.specs.ElfFaults.{AreHeaderFaults, IsElfFault, IsHeaderFault, IsHeaderSizeFault, IsIdentityFault, IsKindFault, IsTableFault, elf_after, elf_before, elf_error, elf_number};
 
 use byteorder::{ByteOrder, LittleEndian};
 use rvm_elf::ReadError;
@@ -18,7 +18,7 @@ const PROGRAM_HEADER_SIZE: usize = 32;
 const MAX_HEADERS: u16 = 16;
 
 /// The first thing that is wrong with an ELF file of a program for the board.
-#[derive(Clone, Copy, Debug, PartialEq, Eq)]
+#[derive(Clone, Copy, Debug)]
 pub(crate) enum ElfFault {
     /// The file does not begin with the four magic bytes.
     NoMagic,
@@ -62,6 +62,69 @@ impl ElfFault {
             ElfFault::ShortTable => ReadError::Truncated,
             ElfFault::ShortSegment(_) => ReadError::Truncated,
             _ => ReadError::NotRiscV32,
+        }
+    }
+
+    /// The words of a report before the number that it names, or all of them if it names none.
+    fn before(self) -> &'static str
+        ensures { result.now ≡ elf_before self }
+    {
+        match self {
+            ElfFault::NoMagic =>
+                "this is no ELF file: assemble or link it, or give --raw for plain bytes",
+            ElfFault::ShortHeader(_) => "this has ",
+            ElfFault::Class(_) => "this is not for 32-bit machines (class ",
+            ElfFault::ByteOrder(_) => "this is not little-endian (byte order ",
+            ElfFault::Version(_) => "this has version ",
+            ElfFault::Machine(_) => "this is for machine ",
+            ElfFault::Object => "this is an object file: link it (docs/BOARD.md)",
+            ElfFault::Shared =>
+                "this is a library, or a program for any address: link it without -shared and -pie (docs/BOARD.md)",
+            ElfFault::Kind(_) => "this has type ",
+            ElfFault::HeaderSize(_) => "this has program headers of ",
+            ElfFault::TooMany(_) => "this has ",
+            ElfFault::ShortTable => "this ends before its program headers do: it was cut off",
+            ElfFault::MoreBytes(_) => "program header ",
+            ElfFault::ShortSegment(_) => "this ends before the bytes of program header ",
+        }
+    }
+
+    /// The number that a report names, if it names one.
+    fn number(self) -> Option<usize>
+        ensures { result ≡ elf_number self }
+    {
+        match self {
+            ElfFault::ShortHeader(size) => Some(size),
+            ElfFault::Class(byte) | ElfFault::ByteOrder(byte) | ElfFault::Version(byte) => {
+                Some(usize::from(byte))
+            }
+            ElfFault::Machine(field)
+            | ElfFault::Kind(field)
+            | ElfFault::HeaderSize(field)
+            | ElfFault::TooMany(field) => Some(usize::from(field)),
+            ElfFault::MoreBytes(index) | ElfFault::ShortSegment(index) => {
+                Some(usize::from(index))
+            }
+            _ => None,
+        }
+    }
+
+    /// The words of a report after the number that it names.
+    fn after(self) -> &'static str
+        ensures { result.now ≡ elf_after self }
+    {
+        match self {
+            ElfFault::ShortHeader(_) => " bytes, and an ELF header has 52: it was cut off",
+            ElfFault::Class(_) => "): build it for 32-bit RISC-V",
+            ElfFault::ByteOrder(_) => "): build it for 32-bit RISC-V",
+            ElfFault::Version(_) => " of the format, and not 1",
+            ElfFault::Machine(_) => ", and not for 243, RISC-V",
+            ElfFault::Kind(_) => ", and a program has 2: link it (docs/BOARD.md)",
+            ElfFault::HeaderSize(_) => " bytes, and not of 32",
+            ElfFault::TooMany(_) => " program headers, and at most 16 are read",
+            ElfFault::MoreBytes(_) => " (from 0) is larger in the file than in memory",
+            ElfFault::ShortSegment(_) => " (from 0): it was cut off",
+            _ => "",
         }
     }
 }
@@ -213,60 +276,10 @@ impl fmt::Display for ElfFault {
     ghost output = { λ f. Some (elf_text f) };
 
     fn fmt<W: fmt::Write>(&self, f: &mut fmt::Formatter<W>) -> fmt::Result {
-        match *self {
-            ElfFault::NoMagic => write!(
-                f,
-                "this is no ELF file: assemble or link it, or give --raw for plain bytes"
-            ),
-            ElfFault::ShortHeader(size) => write!(
-                f,
-                "this has {size} bytes, and an ELF header has 52: it was cut off"
-            ),
-            ElfFault::Class(class) => write!(
-                f,
-                "this is not for 32-bit machines (class {class}): build it for 32-bit RISC-V"
-            ),
-            ElfFault::ByteOrder(order) => write!(
-                f,
-                "this is not little-endian (byte order {order}): build it for 32-bit RISC-V"
-            ),
-            ElfFault::Version(version) => write!(
-                f,
-                "this has version {version} of the format, and not 1"
-            ),
-            ElfFault::Machine(machine) => write!(
-                f,
-                "this is for machine {machine}, and not for 243, RISC-V"
-            ),
-            ElfFault::Object => write!(f, "this is an object file: link it (docs/BOARD.md)"),
-            ElfFault::Shared => write!(
-                f,
-                "this is a library, or a program for any address: link it without -shared and -pie (docs/BOARD.md)"
-            ),
-            ElfFault::Kind(kind) => write!(
-                f,
-                "this has type {kind}, and a program has 2: link it (docs/BOARD.md)"
-            ),
-            ElfFault::HeaderSize(size) => write!(
-                f,
-                "this has program headers of {size} bytes, and not of 32"
-            ),
-            ElfFault::TooMany(count) => write!(
-                f,
-                "this has {count} program headers, and at most 16 are read"
-            ),
-            ElfFault::ShortTable => write!(
-                f,
-                "this ends before its program headers do: it was cut off"
-            ),
-            ElfFault::MoreBytes(index) => write!(
-                f,
-                "program header {index} (from 0) is larger in the file than in memory"
-            ),
-            ElfFault::ShortSegment(index) => write!(
-                f,
-                "this ends before the bytes of program header {index} (from 0): it was cut off"
-            ),
+        let before = self.before();
+        match self.number() {
+            Some(number) => write!(f, "{before}{number}{}", self.after()),
+            None => write!(f, "{before}"),
         }
     }
 }

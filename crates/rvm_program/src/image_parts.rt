@@ -11,7 +11,7 @@ use rvm_hart::RAM_BASE;
 use std::fmt;
 
 /// The part of an image that does not lie in RAM.
-#[derive(Clone, Copy, Debug, PartialEq, Eq)]
+#[derive(Clone, Copy, Debug)]
 pub(crate) enum Outside {
     /// The first segment that does not lie in RAM as a whole begins below RAM.
     Below {

@@ -270,7 +270,7 @@ where
 }
 
 /// Works at a host. Returns the status: that of `commands::host`, or `UNTOLD` if it failed to report how it ended.
-#[tactic(auto, using(crate::proofs::Statuses::host_has_ended))]
+#[tactic(auto, using(crate::proofs::Explained::host_has_ended))]
 fn work_as_host<
     M: PagedMemory + Drop + Send + 'static,
     Rt: System + Net + Threads + Wait + 'static,

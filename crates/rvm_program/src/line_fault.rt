@@ -14,7 +14,7 @@ use std::alloc::{AllocError, Global};
 pub(crate) const EXCERPT_SIZE: usize = 80;
 
 /// What is wrong with a line.
-#[derive(Clone, Copy, Debug, PartialEq, Eq)]
+#[derive(Clone, Copy, Debug)]
 pub(crate) enum LineFault {
     /// The line of an assembly text has this fault.
     Assembly(Fault),

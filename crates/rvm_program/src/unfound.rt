@@ -8,7 +8,7 @@ use rvm_arguments::Arguments;
 use rvm_refusal::Refusal;
 
 /// What may have failed if nothing is found to be wrong with the files.
-#[derive(Clone, Copy, Debug, PartialEq, Eq)]
+#[derive(Clone, Copy, Debug)]
 pub(crate) enum Unfound {
     /// It is not known.
     Cause,
@@ -55,7 +55,8 @@ impl Unfound {
         ensures { result.now ≡ unfound_words self }
     {
         match self {
-            Unfound::Cause => "nothing wrong was found with the files",
+            Unfound::Cause =>
+                "nothing wrong was found with the files; a device or a pipe is not read again",
             Unfound::Memory => "memory ran out: give this process more",
             Unfound::Line => "the text cannot be read again, so its line is not shown",
             Unfound::InputLine => "standard input: this is no line of a script (docs/SCRIPTS.md)",
