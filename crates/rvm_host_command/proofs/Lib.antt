@@ -5,11 +5,11 @@ pub mod Told
 pub mod Hosted
 mod OnlyOne
 mod AllHosts
+mod HostJournals
 mod Counting
 mod SummaryLines
+pub mod OneWorld
 mod Showing
 pub mod Walks
 pub mod Law
 mod WorkedProcesses
-pub mod Origin
-pub mod OneRun

@@ -48,7 +48,6 @@ IsOnlyOne files w found = IsOnly (λ i. is_wanted w (header_number files i)) (le
 pub record HasHeaderOf (files : List JournalFile) (hosts world index : ℕ) : Type 0 where
   pub header : Header
   pub header_is : header_number files index ≡ Some header
-  pub host_below : header.host < header.hosts
   pub hosts_are : header.hosts ≡ hosts
   pub world_is : (header.world ≡ 0) ⊎ (header.world ≡ world)
 
@@ -63,7 +62,7 @@ pub record AreOfWorld (files : List JournalFile) (hosts : ℕ) : Type 0 where
   pub opening : Header
   pub one_guest : IsOnlyOne files WithGuest (Some first)
   pub opening_is : header_number files first ≡ Some opening
-  pub hosts_are : hosts ≡ opening.hosts
+  pub there : opening.host < hosts
   pub headers : HaveHeadersOf files (length files) hosts opening.world
 
 -- a host that has no journal began without a guest, and did nothing
@@ -115,21 +114,19 @@ pub record IsOrdered (text : AuditText) (all : List Recording) (before after : O
   pub merge : IsMerge (journals_in all) events
   pub written : IsWritten text all events before after
 
--- an order of the journals of these hosts is a run of the world in which the guest of the image begins at one of them; in
--- each state of that run the guest is the guest of one board that never moves
-pub record IsOneRun (image : List ℕ) (all : List Recording) (events : List Event) : Type 0 where
-  pub origin : ℕ
+-- a run of the world whose hosts these are, in which the guest of the image, with which the host of this header began,
+-- is the guest of one board that never moves
+pub record HasOneGuest (image : List ℕ) (opening : Header) (all : List Recording) (events : List Event) : Type 0 where
   pub guest : GuestState
-  pub described : Image
-  pub named : IsGuestNamed (Some described) image (Some guest)
-  pub run : IsWorldRun (new_world board 3 origin guest.guest (journals_in all).openings.count (λ x. 4096)) origin
-      guest.guest (journals_in all) events
+  pub guest_is : IsGuestNamed opening.guest image (Some guest)
+  pub run : IsWorldRun (new_world board 3 opening.host guest.guest (length all) (λ host. 4096)) opening.host guest.guest
+      (journals_in all) events
 
--- the hosts of a world did what the journals tell; that has an order, which is a run of one world in which the guest never
--- moved; and what was asked for of it was written
+-- the hosts of a world did what the journals tell; that has an order, what was asked for of it was written, and the guest
+-- in it is the one that never moves
 pub record AreAudited (files : List JournalFile) (image : List ℕ) (text : AuditText) (before after : Option (List ℕ))
     : Type 0 where
   pub all : List Recording
   pub replayed : AreReplayed files image all
   pub ordered : IsOrdered text all before after
-  pub one_run : IsOneRun image all ordered.events
+  pub one_guest : HasOneGuest image replayed.world.opening all ordered.events

@@ -5,6 +5,7 @@ use Rattle.rvm_board.specs.Guest.{GuestState}
 use Rattle.rvm_guest.specs.Valid.{is_valid}
 use Rattle.rvm_command.specs.Command.{guest_of, image_of}
 use Rattle.rvm_command.specs.Ends.{IsLoadable}
+use Rattle.rvm_guest.specs.Valid.{is_valid}
 use Rattle.rvm_host.specs.Hosts.{new_host}
 use Rattle.rvm_recorder.specs.History.{Recording}
 use Rattle.rvm_journal.specs.declared.header.Header.{Header}

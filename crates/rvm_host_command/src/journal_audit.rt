@@ -13,6 +13,7 @@ use crate::journal_file::{JournalFile, JournalsFault};
 use crate::journal_headers::{Wanted, index_of};
 use crate::journal_summary::write_summary;
 use crate::journal_world::replay_all;
+use rvm_audit::laws::the_guest_of_an_order_never_moves;
 use rvm_audit::{Audit, Order, Place, audit_all, write_order};
 use rvm_command::flush::flush;
 use rvm_command::refused::{Refused, tell};
@@ -59,6 +60,7 @@ pub fn audit_journals<M: PagedMemory + Drop, O: Write + Drop, E: Write>(
     match replay_all::<M>(alloc, files, image) {
         Ok(all) => {
             let ended = audit_replayed(alloc, files, all.as_slice(), text, output, errors);
+            the_guest_of_an_order_never_moves();
             drop(all);
             ended
         }

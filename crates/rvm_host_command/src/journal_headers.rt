@@ -3,6 +3,7 @@
 ghost use Rattle.std.specs.Prelude.{◌≡◌, ◌≤◌, IfOk, OnOk, Some, length};
 ghost use Rattle.rvm_journal.specs.Headers.{IsRanged};
 ghost use Rattle.rvm_host_command.specs.Audited.{AreOfWorld, HasHeaderOf, HaveHeadersOf, IsOnlyOne, header_number, is_wanted};
+ghost use Rattle.rvm_journal.specs.Headers.{IsRanged};
 
 use crate::answers::letter_of;
 use crate::journal_file::{FileFault, JournalFile, JournalsFault};
