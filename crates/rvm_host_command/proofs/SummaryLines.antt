@@ -7,7 +7,7 @@ use Rattle.rvm_recorder.specs.History.{Recording}
 use Rattle.rvm_host_command.specs.Counts.{counts_line, counts_of, entries_of_all, host_line, host_lines, plus, summary_of}
 use Rattle.rvm_host_command.specs.declared.journal_counts.Counts.{Counts}
 use Rattle.rvm_host_command.proofs.Counting.{all_add}
-use Rattle.rvm_host_command.proofs.Showing.{appends_on}
+use Rattle.std.proofs.KnownBytes.{Appends-trans}
 
 -- one host more
 lines_push : (x : ℕ) (rs : List Recording) (r : Recording)
@@ -42,7 +42,7 @@ pub host_more : (before mid after : Option (List ℕ)) (all : List Recording) (i
     → Appends before after (host_lines 0 (take (i + 1) all)) × (new ≡ counts_of (entries_of_all (take (i + 1) all)))
 host_more before mid after all i r sum new counts less is so line counted added = (
   subst (Appends before after) (sym (lines_more all i r less is))
-      (appends_on before mid after (host_lines 0 (take i all)) (host_line i r) so.0 line),
+      (Appends-trans before mid after (host_lines 0 (take i all)) (host_line i r) so.0 line),
   added ∙ (λ j. plus (so.1 j) (counted j)) ∙ all_add r.journal.entries (entries_of_all (take i all))
       ∙ ap counts_of (sym (entries_more all i r less is)),
 )
@@ -52,6 +52,6 @@ pub all_written : (before mid after : Option (List ℕ)) (all : List Recording) 
     → Appends before mid (host_lines 0 all) → sum ≡ counts_of (entries_of_all all) → name ≡ codes "all"
     → Appends mid after (counts_line name sum) → Appends before after (summary_of all)
 all_written before mid after all name sum hosts summed named line =
-    appends_on before mid after (host_lines 0 all) (counts_line (codes "all") (counts_of (entries_of_all all))) hosts
+    Appends-trans before mid after (host_lines 0 all) (counts_line (codes "all") (counts_of (entries_of_all all))) hosts
     (subst (λ n. Appends mid after (counts_line n (counts_of (entries_of_all all)))) named
     (subst (λ s. Appends mid after (counts_line name s)) summed line))
