@@ -4,7 +4,7 @@ use Rattle.std.specs.Prelude.{slice_get}
 use Rattle.std.proofs.lemmas.Option.{same_Some}
 use Rattle.rvm_recorder.specs.History.{Recording}
 use Rattle.rvm_host_command.specs.declared.journal_file.JournalFile.{JournalFile}
-use Rattle.rvm_host_command.specs.Audited.{AllDone, HasDone}
+use Rattle.rvm_host_command.specs.Audited.{AllDone, AreOfWorld, AreReplayed, HasDone}
 
 -- one more element
 push_each : {X : Type 0} (P : ℕ → X → Type 0) (xs : List X) (x : X)
@@ -30,3 +30,11 @@ one_done files image n host all now r is so here =
           (push_each (HasDone files image n) all r so.0 (subst (λ x. HasDone files image n x r) (sym long) here)),
       ap length is ∙ omega (arith, long, length-append all (r ∷ [])),
     )
+
+-- all hosts of the world did what their journals tell
+pub replayed : (files : List JournalFile) (image : List ℕ) (hosts : ℕ) (all : List Recording) → AreOfWorld files hosts
+    → AllDone files image hosts all → length all ≡ hosts → AreReplayed files image all
+replayed files image hosts all world each long = record {
+  world = subst (AreOfWorld files) (sym long) world;
+  each = subst (λ n. AllDone files image n all) (sym long) each;
+}

@@ -5,7 +5,9 @@ pub mod Told
 pub mod Hosted
 mod OnlyOne
 mod AllHosts
+mod HostJournals
 mod OrderLines
 mod Counting
 mod SummaryLines
+pub mod OneWorld
 mod Showing

@@ -12,7 +12,8 @@ pub record Lines (hosts : ℕ) (before now : Option (List ℕ)) (all left : List
   pub split : all ≡ done ++ left
   pub written : Appends before now (event_lines hosts done)
 
-nothing : (a : Option (List ℕ)) → Appends a a []
+-- nothing was written
+pub nothing : (a : Option (List ℕ)) → Appends a a []
 nothing None = tt
 nothing (Some xs) = sym (append-nil xs)
 

@@ -2,11 +2,15 @@
 use Rattle.std.specs.Prelude.{◌≡◌, ◌⊎◌, ℕ, ◌<◌, ◌==◌, Bool, true, false, is_some, List, [], length, map, slice_get, Option, Some, None}
 use Rattle.std.specs.Io.KnownBytes.{Appends}
 use Rattle.std.specs.Option.{option_and_then}
+use Rattle.rvm_board.specs.Guest.{GuestState}
+use Rattle.rvm_guest.specs.TheGuest.{board}
+use Rattle.rvm_protocol.specs.World.{new_world}
 use Rattle.rvm_host.specs.Hosts.{new_host}
 use Rattle.rvm_recorder.specs.History.{Recording}
 use Rattle.rvm_audit.specs.ListOrders.{journals_of}
 use Rattle.rvm_audit.specs.Orders.{Journals}
 use Rattle.rvm_audit.specs.Rule.{IsMerge}
+use Rattle.rvm_audit.specs.Worlds.{IsWorldRun}
 use Rattle.rvm_core.specs.declared.event.Event.{Event}
 use Rattle.rvm_core.specs.EventLines.{event_lines}
 use Rattle.rvm_journal.specs.declared.header.Header.{Header}
@@ -17,7 +21,7 @@ use Rattle.rvm_host_command.specs.declared.journal_file.JournalFile.{JournalFile
 use Rattle.rvm_host_command.specs.declared.journal_headers.Wanted.{Wanted}
 use Rattle.rvm_host_command.specs.declared.journal_headers.Wanted.TheVariants.{OfHost, WithGuest}
 use Rattle.rvm_host_command.specs.Counts.{summary_of}
-use Rattle.rvm_host_command.specs.Journals.{IsHostOf}
+use Rattle.rvm_host_command.specs.Journals.{IsGuestNamed, IsHostOf}
 
 -- the header of the journal with this index, if there is such a journal, and it has one
 abbrev pub header_number : List JournalFile → (index : ℕ) → Option Header
@@ -57,7 +61,7 @@ pub record AreOfWorld (files : List JournalFile) (hosts : ℕ) : Type 0 where
   pub opening : Header
   pub one_guest : IsOnlyOne files WithGuest (Some first)
   pub opening_is : header_number files first ≡ Some opening
-  pub hosts_are : hosts ≡ opening.hosts
+  pub there : opening.host < hosts
   pub headers : HaveHeadersOf files (length files) hosts opening.world
 
 -- a host that has no journal began without a guest, and did nothing
@@ -109,9 +113,19 @@ pub record IsOrdered (text : AuditText) (all : List Recording) (before after : O
   pub merge : IsMerge (journals_in all) events
   pub written : IsWritten text all events before after
 
--- the hosts of a world did what the journals tell; that has an order, and what was asked for of it was written
+-- a run of the world whose hosts these are, in which the guest of the image, with which the host of this header began,
+-- is the guest of one board that never moves
+pub record HasOneGuest (image : List ℕ) (opening : Header) (all : List Recording) (events : List Event) : Type 0 where
+  pub guest : GuestState
+  pub guest_is : IsGuestNamed opening.guest image (Some guest)
+  pub run : IsWorldRun (new_world board 3 opening.host guest.guest (length all) (λ host. 4096)) opening.host guest.guest
+      (journals_in all) events
+
+-- the hosts of a world did what the journals tell; that has an order, what was asked for of it was written, and the guest
+-- in it is the one that never moves
 pub record AreAudited (files : List JournalFile) (image : List ℕ) (text : AuditText) (before after : Option (List ℕ))
     : Type 0 where
   pub all : List Recording
   pub replayed : AreReplayed files image all
   pub ordered : IsOrdered text all before after
+  pub one_guest : HasOneGuest image replayed.world.opening all ordered.events

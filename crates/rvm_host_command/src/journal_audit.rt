@@ -12,6 +12,7 @@ use crate::journal_file::{JournalFile, JournalsFault};
 use crate::journal_headers::{Wanted, index_of};
 use crate::journal_summary::write_summary;
 use crate::journal_world::replay_all;
+use rvm_audit::laws::the_guest_of_an_order_never_moves;
 use rvm_audit::{Audit, Order, Place, audit_all};
 use rvm_command::refused::{Refused, tell};
 use rvm_core::write_event;
@@ -54,10 +55,14 @@ pub fn audit_journals<M: PagedMemory + Drop, O: Write, E: Write>(
     match replay_all::<M>(alloc, files, image) {
         Ok(all) => {
             let ended = audit_replayed(alloc, files, all.as_slice(), text, output, errors);
+            the_guest_of_an_order_never_moves();
             drop(all);
             ended
         }
-        Err(fault) => tell_fault(files, fault, errors),
+        Err(fault) => {
+            tell_fault(files, fault, errors)?;
+            Ok(1)
+        }
     }
 }
 
@@ -83,8 +88,14 @@ fn audit_replayed<M: PagedMemory + Drop, O: Write, E: Write>(
             write_order(all, &order, text, output)?;
             Ok(0)
         }
-        Ok(Audit::NoOrder(places)) => tell_places(files, all, places.as_slice(), errors),
-        Err(_) => tell(Refused::from(Refusal::OutOfMemory), errors),
+        Ok(Audit::NoOrder(places)) => {
+            tell_places(files, all, places.as_slice(), errors)?;
+            Ok(1)
+        }
+        Err(_) => {
+            tell_refusal(Refusal::OutOfMemory, errors)?;
+            Ok(1)
+        }
     }
 }
 
@@ -111,35 +122,37 @@ fn journals_of<'a, M: PagedMemory + Drop>(
     Ok(journals)
 }
 
-/// Reports why journals are not audited. Returns the status, which is 1.
+/// Reports why journals are not audited.
 fn tell_fault<E: Write>(
     files: &[JournalFile<'_>],
     fault: JournalsFault,
     errors: &mut E,
-) -> Result<u8, LinkFault>
-    ensures { IfOk result (λ status. status ≡ 1) }
-{
+) -> Result<(), LinkFault> {
     match fault {
-        JournalsFault::OutOfMemory => return tell(Refused::from(Refusal::OutOfMemory), errors),
+        JournalsFault::OutOfMemory => tell_refusal(Refusal::OutOfMemory, errors)?,
         JournalsFault::NoGuest => writeln!(errors, "no journal begins with a guest")?,
         JournalsFault::File(index, fault) => match files.get(index) {
             Some(file) => writeln!(errors, "{}: {fault}", file.name)?,
             None => writeln!(errors, "{fault}")?,
         },
     }
-    Ok(1)
+    Ok(())
 }
 
-/// Reports how much of the journal of each host is in order, and that there is no order of all. Returns the status, which
-/// is 1.
+/// Reports a refusal.
+fn tell_refusal<E: Write>(refusal: Refusal, errors: &mut E) -> Result<(), LinkFault> {
+    let _status = tell(Refused::from(refusal), errors)?;
+    Ok(())
+}
+
+/// Reports how much of the journal of each host is in order, and that there is no order of all.
 fn tell_places<M: PagedMemory + Drop, E: Write>(
     files: &[JournalFile<'_>],
     all: &[Recorded<M>],
     places: &[Place],
     errors: &mut E,
-) -> Result<u8, LinkFault>
+) -> Result<(), LinkFault>
     requires { length all.now ≤ 8 }
-    ensures { IfOk result (λ status. status ≡ 1) }
 {
     for host in 0..all.len().min(places.len()) {
         let letter = letter_of(host as u8);
@@ -148,7 +161,7 @@ fn tell_places<M: PagedMemory + Drop, E: Write>(
         let name = name_of(files, host as u8);
         writeln!(errors, "{letter}: {entries} of {count} events in order ({name})")?;
     }
-    tell(Refused::from(Refusal::NoOrder), errors)
+    tell_refusal(Refusal::NoOrder, errors)
 }
 
 /// The name of the journal of a host.

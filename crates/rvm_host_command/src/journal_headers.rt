@@ -2,6 +2,7 @@
 
 ghost use Rattle.std.specs.Prelude.{◌≡◌, ◌≤◌, IfOk, OnOk, Some, length};
 ghost use Rattle.rvm_host_command.specs.Audited.{AreOfWorld, HasHeaderOf, HaveHeadersOf, IsOnlyOne, header_number, is_wanted};
+ghost use Rattle.rvm_journal.specs.Headers.{IsRanged};
 
 use crate::answers::letter_of;
 use crate::journal_file::{FileFault, JournalFile, JournalsFault};
@@ -95,7 +96,7 @@ pub(crate) fn header_number(
     index: usize,
 ) -> Result<Header, JournalsFault>
     ensures header { IfOk result (λ header. header_number files.now index ≡ Some header) }
-    ensures range { IfOk result (λ header. header.hosts ≤ 8) }
+    ensures range { IfOk result IsRanged }
 {
     let Some(file) = files.get(index) else {
         return Err(JournalsFault::NoGuest);

@@ -8,6 +8,7 @@ use crate::journal_file::FileFault;
 use rvm_arguments::GuestArguments;
 use rvm_board::{Debugged, MAX_HARTS};
 use rvm_command::guest::load_guest;
+use rvm_guest::valid_guest;
 use rvm_host::Host;
 use rvm_journal::{Header, Image, replay_journal};
 use rvm_mem::{MAX_PAGES, PagedMemory};
@@ -76,7 +77,10 @@ fn guest_of<M: PagedMemory + Drop>(
         pages: image.pages,
     };
     match load_guest::<M>(alloc, &arguments, file) {
-        Ok(guest) => Ok(Some(guest)),
+        Ok(guest) => {
+            valid_guest(&guest);
+            Ok(Some(guest))
+        }
         Err(refused) => Err(FileFault::Image(refused)),
     }
 }
