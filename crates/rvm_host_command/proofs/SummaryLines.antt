@@ -54,4 +54,4 @@ pub all_written : (before mid after : Option (List ℕ)) (all : List Recording) 
 all_written before mid after all name sum hosts summed named line =
     appends_on before mid after (host_lines 0 all) (counts_line (codes "all") (counts_of (entries_of_all all))) hosts
     (subst (λ n. Appends mid after (counts_line n (counts_of (entries_of_all all)))) named
-        (subst (λ s. Appends mid after (counts_line name s)) summed line))
+    (subst (λ s. Appends mid after (counts_line name s)) summed line))

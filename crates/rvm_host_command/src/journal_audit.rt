@@ -159,7 +159,10 @@ fn tell_places<M: PagedMemory + Drop, E: Write>(
         let entries = places[host].entries;
         let count = all[host].count();
         let name = name_of(files, host as u8);
-        writeln!(errors, "{letter}: {entries} of {count} events in order ({name})")?;
+        writeln!(
+            errors,
+            "{letter}: {entries} of {count} events in order ({name})"
+        )?;
     }
     tell_refusal(Refusal::NoOrder, errors)
 }

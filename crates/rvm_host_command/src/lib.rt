@@ -8,7 +8,8 @@
 //!
 //! To be read in this order: `fault`, `address`, `outbound`, `timed`, `door`, `process`, `meeting`, `peer`, `accepter`,
 //! `ticker`, `operators`, `answers`, `control`, `threads`, `turns`, `hosting`, `host_command`, `tell_command`;
-//! `journal_file`, `journal_hosts`, `journal_counts`, `journal_audit`, `console_of_journal`, `replay_command`.
+//! `journal_file`, `journal_hosts`, `console_of_journal`, `replay_command`; `journal_headers`, `journal_world`,
+//! `journal_counts`, `journal_summary`, `journal_audit`.
 #![tactic(auto)]
 
 mod accepter;
@@ -23,7 +24,10 @@ pub mod hosting;
 pub mod journal_audit;
 mod journal_counts;
 pub mod journal_file;
+mod journal_headers;
 mod journal_hosts;
+mod journal_summary;
+mod journal_world;
 mod meeting;
 pub mod operators;
 mod outbound;

@@ -12,4 +12,4 @@ returns-in-Ok-clause-order g c =
     audited_if status c.args.files.now c.args.image.now c.args.text before after c.in-Ok.all.items c.in-Ok.ensures.done
     c.the_guest_of_an_order_never_moves.ensures
     (subst (λ all. IfOk status (λ s. s ≡ 0 → IsOrdered c.args.text all before after)) c.as_slice.ensures.value
-        c.audit_replayed-ended.ensures.order)
+    c.audit_replayed-ended.ensures.order)
