@@ -4,6 +4,15 @@ use Rattle.std.proofs.lemmas.List.{length-map, map-append, take_more}
 use denote.Ref.{Bor}
 use Rattle.rvm_recorder.specs.History.{History, Recording}
 use Rattle.rvm_audit.specs.Audits.{histories_of}
+use Rattle.std.proofs.KnownBytes.{Appends-kept}
+use Rattle.std.specs.Io.KnownBytes.{Keeps}
+use Rattle.std.specs.Prelude.{OnOk, Option, Result, Ok, Err}
+use Rattle.rvm_core.specs.EventLines.{event_lines}
+use Rattle.rvm_core.specs.declared.event.Event.{Event}
+use Rattle.rvm_host_command.specs.Audited.{IsWritten}
+use Rattle.rvm_host_command.specs.Counts.{summary_of}
+use Rattle.rvm_host_command.specs.declared.journal_audit.AuditText.{AuditText}
+use Rattle.rvm_host_command.specs.declared.journal_audit.AuditText.TheVariants.{Order, Summary}
 
 abbrev journals : List Recording → List History
 journals all = map (λ r. r.journal) all
@@ -22,3 +31,10 @@ pub as_many : (all : List Recording) (js : List (Bor History)) → histories_of 
 as_many all js is few =
     let same : length (histories_of js) ≡ length (journals all) = ap length is in
     omega (arith, few, same, length-map js (λ (b : Bor History). b.now), length-map all (λ (r : Recording). r.journal))
+
+-- what was written is still written once it is flushed
+pub written_kept : (text : AuditText) (all : List Recording) (events : List Event) (before mid after : Option (List ℕ))
+    → IsWritten text all events before mid → Keeps mid after → IsWritten text all events before after
+written_kept Summary all events before mid after written keeps = Appends-kept before mid after (summary_of all) written keeps
+written_kept Order all events before mid after written keeps =
+    Appends-kept before mid after (event_lines (length all) events) written keeps

@@ -170,7 +170,7 @@ has_one_guest files image all events are order law =
       run = subst (λ n. IsWorldRun (new_world board 3 origin g.0.guest n (λ x. 4096)) origin g.0.guest (journals_in all) events)
           (count_is files image all are)
           (law 3 origin g.0 (λ x. 4096) (journals_in all) events
-              (valid_of image are.world.opening.guest g.0 g.1) (new files image all are) order);
+          (valid_of image are.world.opening.guest g.0 g.1) (new files image all are) order);
     }
 
 -- what `audit_journals` says of its status, from what it is told of the order

@@ -64,7 +64,10 @@ pub fn audit_journals<M: PagedMemory + Drop, O: Write + Drop, E: Write>(
             drop(all);
             ended
         }
-        Err(fault) => tell_fault(files, fault, errors),
+        Err(fault) => {
+            tell_fault(files, fault, errors)?;
+            Ok(1)
+        }
     }
 }
 
@@ -90,8 +93,14 @@ fn audit_replayed<M: PagedMemory + Drop, O: Write + Drop, E: Write>(
 {
     match order_of(alloc, all) {
         Ok(Audit::Order(order)) => write_audit(all, &order, text, output, errors),
-        Ok(Audit::NoOrder(places)) => tell_places(files, all, places.as_slice(), errors),
-        Err(_) => tell(Refused::from(Refusal::OutOfMemory), errors),
+        Ok(Audit::NoOrder(places)) => {
+            tell_places(files, all, places.as_slice(), errors)?;
+            Ok(1)
+        }
+        Err(_) => {
+            tell_refusal(Refusal::OutOfMemory, errors)?;
+            Ok(1)
+        }
     }
 }
 
@@ -115,11 +124,23 @@ fn write_audit<M: PagedMemory + Drop, O: Write + Drop, E: Write>(
 {
     match write_flushed(all, order, text, output) {
         Ok(()) => Ok(0),
-        Err(fault) => tell(Refused::from(fault), errors),
+        Err(_) => {
+            tell_write(errors)?;
+            Ok(1)
+        }
     }
 }
 
+/// Reports that a write failed.
+fn tell_write<E: Write>(errors: &mut E) -> Result<(), LinkFault>
+    ensures { OnOk result (IsTold (refused refusal.LinkFault) (E.contents errors.old) (E.contents errors.new)) }
+{
+    let _status = tell(Refused::from(LinkFault), errors)?;
+    Ok(())
+}
+
 /// Writes what is asked for of an order that was found, and flushes it.
+#[tactic(auto, using(crate::proofs::HostJournals::written_kept))]
 fn write_flushed<M: PagedMemory + Drop, O: Write + Drop>(
     all: &[Recorded<M>],
     order: &Order,
@@ -158,35 +179,37 @@ fn journals_of<'a, M: PagedMemory + Drop>(
     Ok(journals)
 }
 
-/// Reports why journals are not audited. Returns the status, which is 1.
+/// Reports why journals are not audited.
 fn tell_fault<E: Write>(
     files: &[JournalFile<'_>],
     fault: JournalsFault,
     errors: &mut E,
-) -> Result<u8, LinkFault>
-    ensures { IfOk result (λ status. status ≡ 1) }
-{
+) -> Result<(), LinkFault> {
     match fault {
-        JournalsFault::OutOfMemory => return tell(Refused::from(Refusal::OutOfMemory), errors),
+        JournalsFault::OutOfMemory => tell_refusal(Refusal::OutOfMemory, errors)?,
         JournalsFault::NoGuest => writeln!(errors, "no journal begins with a guest")?,
         JournalsFault::File(index, fault) => match files.get(index) {
             Some(file) => writeln!(errors, "{}: {fault}", file.name)?,
             None => writeln!(errors, "{fault}")?,
         },
     }
-    Ok(1)
+    Ok(())
 }
 
-/// Reports how much of the journal of each host is in order, and that there is no order of all. Returns the status, which
-/// is 1.
+/// Reports a refusal.
+fn tell_refusal<E: Write>(refusal: Refusal, errors: &mut E) -> Result<(), LinkFault> {
+    let _status = tell(Refused::from(refusal), errors)?;
+    Ok(())
+}
+
+/// Reports how much of the journal of each host is in order, and that there is no order of all.
 fn tell_places<M: PagedMemory + Drop, E: Write>(
     files: &[JournalFile<'_>],
     all: &[Recorded<M>],
     places: &[Place],
     errors: &mut E,
-) -> Result<u8, LinkFault>
+) -> Result<(), LinkFault>
     requires { length all.now ≤ 8 }
-    ensures { IfOk result (λ status. status ≡ 1) }
 {
     for host in 0..all.len().min(places.len()) {
         let letter = letter_of(host as u8);
@@ -198,7 +221,7 @@ fn tell_places<M: PagedMemory + Drop, E: Write>(
             "{letter}: {entries} of {count} events in order ({name})"
         )?;
     }
-    tell(Refused::from(Refusal::NoOrder), errors)
+    tell_refusal(Refusal::NoOrder, errors)
 }
 
 /// The name of the journal of a host.

@@ -1,188 +1,365 @@
-//! Journals in files, audited: those of two hosts between which a move is begun, accepted and given up; and the same with
-//! one line changed, left out or moved.
+//! Journals in files, audited: those of three hosts, of which the first sends its guest to the second, and that on to the
+//! third; and which journals are refused.
 
+use crate::asked::{again, board, came};
+use crate::orders::{COPIES, POLICY, made};
+use crate::written::{cut, damage, write_journal};
+use rvm_board::{Board, BoardEvent, Debugged};
+use rvm_frame::{Addressed, Frame};
+use rvm_hart::RAM_BASE;
+use rvm_host::Host;
 use rvm_host_command::journal_audit::{AuditText, audit_journals};
 use rvm_host_command::journal_file::JournalFile;
+use rvm_journal::{Header, Image};
+use rvm_mem::write_bytes;
+use rvm_message::{Command, HostEvent};
 use rvm_paged::PagedRam;
+use rvm_recorder::Recorded;
 use std::alloc::Global;
 use std::io::BufWriter;
 
-/// The image of the guest: a jump to itself. Its SHA-256 stands in the header of host A.
-static IMAGE: [u8; 4] = [0x6F, 0, 0, 0];
+/// The number of hosts.
+const HOSTS: u8 = 3;
 
-/// The journal of host A, which offers its guest of one page, copies it, and gives the move up.
-static FIRST: [&str; 8] = [
-    "cb67a27866da28d8 journal 1 host 0 of 2 process 7 world 12 guest raw 1 1 cb4b9dbbeb77704337f1b45fd423801e5df7d62212f235c0529a39f766586a7f",
-    "cba5062f8629bd6b turns 0 1 100",
-    "d86ce2ff863e4c6c A drain 256",
-    "208647cf25834758 A begin 29 50 3",
-    "131d42c3102aa757 came 020100010000000000000000000000",
-    "426a812d61b82a06 A copy",
-    "1d46e7fbeeb875a6 A abort",
-    "695f55dc7acfd0d4 turns 0 1 50",
+/// The number of pages of the guest.
+const PAGES: u32 = 4;
+
+/// The most frames that follow from one command.
+const FRAMES: u32 = 8;
+
+/// How many entries each journal takes.
+const ENTRIES: u32 = 200;
+
+/// The image of the guest, which sends one byte, and then jumps to itself: `lui t0, 0x10000`, `li t1, 104`, `sw t1, 0(t0)`,
+/// `j 0`.
+static IMAGE: [u8; 16] = [
+    0xB7, 0x02, 0x00, 0x10, 0x13, 0x03, 0x80, 0x06, 0x23, 0xA0, 0x62, 0x00, 0x6F, 0, 0, 0,
 ];
 
-/// The journal of host B, to which the offer and the end of the move come.
-static SECOND: [&str; 3] = [
-    "5eb91b6901be61ec journal 1 host 1 of 2 process 9 world 0 without guest",
-    "68fc22883a260281 came 010001010000000000000003000000010001",
-    "d723697a643907f0 came 0b0001010000000000000000000000",
-];
+/// Another image.
+static OTHER_IMAGE: [u8; 4] = [0x6F, 0, 0, 0];
 
-/// A journal of host B to which an offer of two pages comes, as host A of another world made it.
-static OTHER_OFFER: [&str; 3] = [
-    "5eb91b6901be61ec journal 1 host 1 of 2 process 9 world 0 without guest",
-    "a603f4d3c08240f2 came 010001010000000000000003000000020001",
-    "edd8feb010688164 came 0b0001010000000000000000000000",
-];
+/// The names of the files.
+static NAMES: [&str; 4] = ["a.journal", "b.journal", "c.journal", "d.journal"];
 
-/// A journal of host B with a frame that went to host A.
-static TO_ANOTHER: [&str; 3] = [
-    "5eb91b6901be61ec journal 1 host 1 of 2 process 9 world 0 without guest",
-    "68fc22883a260281 came 010001010000000000000003000000010001",
-    "6c935dca64aa9a6a came 0b0100010000000000000000000000",
-];
-
-/// A journal of host B with turns of nine harts, which no board has.
-static NINE_HARTS: [&str; 4] = [
-    "5eb91b6901be61ec journal 1 host 1 of 2 process 9 world 0 without guest",
-    "68fc22883a260281 came 010001010000000000000003000000010001",
-    "d723697a643907f0 came 0b0001010000000000000000000000",
-    "456662c7be92717c turns 0 9 3",
-];
-
-/// What is changed in the journal of host A.
+/// Which journals are audited, and how they are changed.
 #[derive(Clone, Copy)]
-enum Change {
-    Nothing,
-    /// The last bit of the line with this index.
-    Bit(usize),
-    /// The line with this index is left out.
+enum Case {
+    /// Those of all hosts.
+    All,
+    /// The same, and their order is asked for.
+    Order,
+    /// The last bit of a line of host C, by its number, is another one.
+    Damaged(usize),
+    /// All but that of this host.
     Without(usize),
-    /// The line with this index comes after the next one.
-    Later(usize),
+    /// Those of all hosts, and that of host B once more.
+    Twice,
+    /// To host C comes a frame that nobody sent.
+    Unsent,
+    /// The journal of host C ends with the line before its last one.
+    Cut,
+    /// The journal of host C has no line.
+    Empty,
+    /// Host B began with the guest too.
+    SecondGuest,
+    /// The world of host C has a host more.
+    OtherHosts,
+    /// Host C tells the number of another world.
+    OtherWorld,
+    /// Host C tells the number of the world, as it may.
+    SameWorld,
+    /// The image is another one.
+    OtherImage,
 }
 
-/// Audits the journals of two hosts, and prints the status and what was reported.
+/// Audits the journals of three hosts, as they are, and changed so that they are refused.
 pub fn audit_files<R: AllocGlobal + Print>(rt: &R) -> Option<()> {
-    audit(rt, "a move that is given up", Change::Nothing, &SECOND)?;
-    for index in 0..FIRST.len() {
-        audit(
-            rt,
-            "with another bit in a line",
-            Change::Bit(index),
-            &SECOND,
-        )?;
+    audit(rt, "journals of three hosts", Case::All)?;
+    audit(rt, "their order", Case::Order)?;
+    audit(rt, "the number of the world at each host", Case::SameWorld)?;
+    audit(rt, "without the last line of host C", Case::Cut)?;
+    audit(rt, "a frame that nobody sent", Case::Unsent)?;
+    audit(rt, "without host B", Case::Without(1))?;
+    audit(rt, "without host A", Case::Without(0))?;
+    audit(rt, "host B twice", Case::Twice)?;
+    audit(rt, "a guest at host B", Case::SecondGuest)?;
+    audit(rt, "a world of four hosts at host C", Case::OtherHosts)?;
+    audit(rt, "another world at host C", Case::OtherWorld)?;
+    audit(rt, "another image", Case::OtherImage)?;
+    audit(rt, "a journal without a line", Case::Empty)?;
+    for line in 1..11 {
+        audit(rt, "another bit in a line of host C", Case::Damaged(line))?;
     }
-    for index in 0..FIRST.len() {
-        audit(rt, "without a line", Change::Without(index), &SECOND)?;
-    }
-    audit(
-        rt,
-        "with two lines in another order",
-        Change::Later(2),
-        &SECOND,
-    )?;
-    audit(
-        rt,
-        "with an offer of another world",
-        Change::Nothing,
-        &OTHER_OFFER,
-    )?;
-    audit(
-        rt,
-        "with a frame to another host",
-        Change::Nothing,
-        &TO_ANOTHER,
-    )?;
-    audit(rt, "with turns of nine harts", Change::Nothing, &NINE_HARTS)?;
-    audit(rt, "of one host twice", Change::Nothing, &FIRST)
+    Some(())
 }
 
-/// Audits the journal of host A, with a change, and another one.
-fn audit<R: AllocGlobal + Print>(
+/// Has three hosts do what a case asks for, and audits their journals.
+fn audit<R: AllocGlobal + Print>(rt: &R, name: &str, case: Case) -> Option<()> {
+    let alloc = rt.alloc();
+    let mut hosts = Vec::new(alloc);
+    let told = audit_hosts(rt, name, case, &mut hosts);
+    drop(hosts);
+    told
+}
+
+/// Makes the hosts, has them do what a case asks for, and audits their journals.
+fn audit_hosts<R: AllocGlobal + Print>(
     rt: &R,
     name: &str,
-    change: Change,
-    second: &[&str],
+    case: Case,
+    hosts: &mut Vec<Recorded<PagedRam>>,
 ) -> Option<()> {
+    let alloc = rt.alloc();
+    for id in 0..HOSTS {
+        again!(hosts.reserve(1));
+        hosts.push(new_host(alloc, id)?).ok()?;
+    }
+    let [a, b, c] = hosts.as_mut_slice() else {
+        return None;
+    };
+    act(alloc, case, a, b, c)?;
+    let a = write_journal(alloc, &header_of(0, case), a.journal())?;
+    let b = write_journal(alloc, &header_of(1, case), b.journal())?;
+    let mut c = write_journal(alloc, &header_of(2, case), c.journal())?;
+    match case {
+        Case::Cut => cut(&mut c)?,
+        Case::Damaged(line) => damage(&mut c, line)?,
+        _ => {}
+    }
+    tell(rt, name, case, &[a.as_slice(), b.as_slice(), c.as_slice()])
+}
+
+/// A host with an empty journal: host A has the guest.
+fn new_host(alloc: Global, id: u8) -> Option<Recorded<PagedRam>> {
+    let guest = if id == 0 {
+        Some(new_guest(alloc)?)
+    } else {
+        None
+    };
+    let host = Host::with_version(guest, id, HOSTS, 4096, 3).ok()?;
+    Recorded::new(alloc, host, ENTRIES).ok()
+}
+
+/// The guest of the image.
+fn new_guest(alloc: Global) -> Option<Debugged<PagedRam>> {
+    let mut ram = again!(PagedRam::new(alloc, PAGES));
+    write_bytes(&mut ram, 0, &IMAGE).ok()?;
+    match Board::new(alloc, 1, ram, RAM_BASE) {
+        Ok(board) => Some(Debugged::new(board)),
+        Err((_, ram)) => Some(Debugged::new(Board::new(alloc, 1, ram, RAM_BASE).ok()?)),
+    }
+}
+
+/// 100 turns and a drain at host A, the moves, and 50 turns at host C. In one case a frame comes to C after them that
+/// nobody sent.
+fn act(
+    alloc: Global,
+    case: Case,
+    a: &mut Recorded<PagedRam>,
+    b: &mut Recorded<PagedRam>,
+    c: &mut Recorded<PagedRam>,
+) -> Option<()> {
+    step(alloc, a, 100)?;
+    drop(made(a, alloc, board(BoardEvent::Drain(256)))?);
+    move_guest(alloc, a, b, 1)?;
+    move_guest(alloc, b, c, 2)?;
+    step(alloc, c, 50)?;
+    if matches!(case, Case::Unsent) {
+        let frame = came(alloc, 0, Frame::Go { move_number: 9 })?;
+        drop(made(c, alloc, frame)?);
+    }
+    Some(())
+}
+
+/// Has the hart of a host's guest take turns.
+fn step(alloc: Global, host: &mut Recorded<PagedRam>, turns: u32) -> Option<()> {
+    for _ in 0..turns {
+        drop(made(host, alloc, board(BoardEvent::Step(0)))?);
+    }
+    Some(())
+}
+
+/// Moves the guest from one host to another, host `to`.
+fn move_guest(
+    alloc: Global,
+    source: &mut Recorded<PagedRam>,
+    target: &mut Recorded<PagedRam>,
+    to: u8,
+) -> Option<()> {
+    let begin = Command::Begin { to, policy: POLICY };
+    play(alloc, source, target, to, begin)?;
+    for _ in 0..COPIES {
+        play(alloc, source, target, to, Command::Copy)?;
+    }
+    Some(())
+}
+
+/// Gives the source of a move a command, and each of both hosts the frames that follow from it.
+fn play(
+    alloc: Global,
+    source: &mut Recorded<PagedRam>,
+    target: &mut Recorded<PagedRam>,
+    target_number: u8,
+    command: Command,
+) -> Option<()> {
+    let mut next = made(source, alloc, HostEvent::Do(command))?;
+    for _ in 0..FRAMES {
+        let Some(Addressed { from, to, frame }) = next else {
+            return Some(());
+        };
+        let event = came(alloc, from, frame)?;
+        next = if to == target_number {
+            made(target, alloc, event)?
+        } else {
+            made(source, alloc, event)?
+        };
+    }
+    drop(next);
+    None
+}
+
+/// The header of the journal of a host, in a case.
+fn header_of(host: u8, case: Case) -> Header {
+    let has_guest = host == 0 || (host == 1 && matches!(case, Case::SecondGuest));
+    Header {
+        hosts: hosts_of(host, case),
+        host,
+        process: 7,
+        world: world_of(host, case),
+        guest: if has_guest {
+            Some(Image::of(true, 1, PAGES, &IMAGE))
+        } else {
+            None
+        },
+    }
+}
+
+/// How many hosts the header of a host tells.
+fn hosts_of(host: u8, case: Case) -> u8 {
+    match case {
+        Case::OtherHosts if host == 2 => 4,
+        _ => HOSTS,
+    }
+}
+
+/// Which number of the world the header of a host tells: only host A knows it, but for some cases.
+fn world_of(host: u8, case: Case) -> u64 {
+    match case {
+        Case::OtherWorld if host == 2 => 13,
+        Case::SameWorld => 12,
+        _ if host == 0 => 12,
+        _ => 0,
+    }
+}
+
+/// Audits journals as a case asks for, and prints the status and what was written.
+fn tell<R: AllocGlobal + Print>(rt: &R, name: &str, case: Case, bytes: &[&[u8]; 3]) -> Option<()> {
     for _ in 0..2 {
-        let files = [
-            JournalFile {
-                name: "a.journal",
-                bytes: journal(rt.alloc(), &FIRST, change)?,
-            },
-            JournalFile {
-                name: "b.journal",
-                bytes: journal(rt.alloc(), second, Change::Nothing)?,
-            },
-        ];
-        if tell(rt, name, &files)? {
+        let mut files = Vec::new(rt.alloc());
+        list(rt.alloc(), &mut files, case, bytes)?;
+        if tell_audit(rt, name, files.as_slice(), case)? {
             return Some(());
         }
     }
     None
 }
 
-/// Audits journals, and prints the status and all that was written. Returns false if memory ran out.
-fn tell<R: AllocGlobal + Print>(rt: &R, name: &str, files: &[JournalFile<'_>]) -> Option<bool> {
+/// The image in a case.
+fn image_of(case: Case) -> &'static [u8] {
+    match case {
+        Case::OtherImage => &OTHER_IMAGE,
+        _ => &IMAGE,
+    }
+}
+
+/// Lists the files of a case.
+fn list<'a>(
+    alloc: Global,
+    files: &mut Vec<JournalFile<'a>>,
+    case: Case,
+    bytes: &[&[u8]; 3],
+) -> Option<()> {
+    again!(files.reserve(4));
+    for index in 0..3 {
+        let is_left_out = matches!(case, Case::Without(out) if out == index);
+        if !is_left_out {
+            let bytes = *bytes.get(index)?;
+            let is_empty = index == 2 && matches!(case, Case::Empty);
+            let bytes = if is_empty { b"".as_slice() } else { bytes };
+            put(alloc, files, index, bytes)?;
+        }
+    }
+    if matches!(case, Case::Twice) {
+        put(alloc, files, 3, bytes[1])?;
+    }
+    Some(())
+}
+
+/// Adds a file with this name.
+fn put<'a>(
+    alloc: Global,
+    files: &mut Vec<JournalFile<'a>>,
+    index: usize,
+    bytes: &[u8],
+) -> Option<()> {
+    let name = *NAMES.get(index)?;
+    let mut copy = Vec::new(alloc);
+    again!(copy.extend_from_slice(bytes));
+    files.push(JournalFile { name, bytes: copy }).ok()
+}
+
+/// Audits journals, and prints the status and what was written. Returns false if memory ran out.
+fn tell_audit<R: AllocGlobal + Print>(
+    rt: &R,
+    name: &str,
+    files: &[JournalFile<'_>],
+    case: Case,
+) -> Option<bool> {
+    let is_order = matches!(case, Case::Order);
     let mut output = Vec::new(rt.alloc());
     let mut errors = Vec::new(rt.alloc());
-    let Some(status) = status_of(rt.alloc(), files, &mut output, &mut errors) else {
+    let Some(status) = status_of(rt.alloc(), files, case, &mut output, &mut errors) else {
         return Some(false);
     };
     if errors.starts_with(b"refused 1 ") {
         return Some(false);
     }
-    let summary = str::from_utf8(&output).ok()?;
-    let why = str::from_utf8(&errors).ok()?;
     println!(rt; "{name}: status {status}").ok()?;
-    print!(rt; "{summary}{why}").ok()?;
+    if is_order {
+        tell_order(rt, output.as_slice())?;
+    } else {
+        print!(rt; "{}", str::from_utf8(&output).ok()?).ok()?;
+    }
+    print!(rt; "{}", str::from_utf8(&errors).ok()?).ok()?;
     Some(true)
 }
 
-/// The status of an audit of journals, whose summary is written to a buffer in front of `output`. None if memory ran out.
+/// The status of an audit, which writes to a buffer in front of `output`. None if memory ran out.
 fn status_of(
     alloc: Global,
     files: &[JournalFile<'_>],
+    case: Case,
     output: &mut Vec<u8>,
     errors: &mut Vec<u8>,
 ) -> Option<u8> {
+    let text = match case {
+        Case::Order => AuditText::Order,
+        _ => AuditText::Summary,
+    };
+    let image = image_of(case);
     let mut buffer = BufWriter::new(alloc, output).ok()?;
-    let summary = AuditText::Summary;
-    audit_journals::<PagedRam, _, _>(alloc, files, &IMAGE, summary, &mut buffer, errors).ok()
+    audit_journals::<PagedRam, _, _>(alloc, files, image, text, &mut buffer, errors).ok()
 }
 
-/// The bytes of a journal with these lines, and a change.
-fn journal(alloc: Global, lines: &[&str], change: Change) -> Option<Vec<u8>> {
-    let mut bytes = Vec::new(alloc);
-    for index in 0..lines.len() {
-        let place = place_of(index, change);
-        if let Some(line) = lines.get(place) {
-            put_line(&mut bytes, line, index, change)?;
+/// Prints how many events an order has, and whether it is from a step of host A to one of host C.
+fn tell_order<R: AllocGlobal + Print>(rt: &R, lines: &[u8]) -> Option<()> {
+    let mut events = 0u32;
+    for byte in lines {
+        if *byte == b'\n' {
+            events = events.wrapping_add(1);
         }
     }
-    Some(bytes)
-}
-
-/// Which line stands in the place of the line with this index.
-fn place_of(index: usize, change: Change) -> usize {
-    match change {
-        Change::Later(late) if index == late => late.saturating_add(1),
-        Change::Later(late) if index == late.saturating_add(1) => late,
-        _ => index,
-    }
-}
-
-/// Appends a line, unless it is left out.
-fn put_line(bytes: &mut Vec<u8>, line: &str, index: usize, change: Change) -> Option<()> {
-    if matches!(change, Change::Without(left_out) if left_out == index) {
-        return Some(());
-    }
-    bytes.extend_from_slice(line.as_bytes()).ok()?;
-    if matches!(change, Change::Bit(changed) if changed == index) {
-        let last = bytes.pop()?;
-        bytes.push(last ^ 1).ok()?;
-    }
-    bytes.push(b'\n').ok()
+    let is_between = lines.starts_with(b"A step 0\n") && lines.ends_with(b"\nC step 0\n");
+    println!(rt; "{events} events, from a step of host A to one of host C {is_between}").ok()
 }

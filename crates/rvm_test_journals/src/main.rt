@@ -4,7 +4,7 @@
 //! of this many entries in order instead; with `list` or `runs` and three numbers, two journals of steps among which
 //! frames come, as `runs` describes.
 //!
-//! To be read in this order: `asked`, `slices`, `sharing`, `sizes`, `orders`, `around`, `runs`, `files`.
+//! To be read in this order: `asked`, `slices`, `sharing`, `sizes`, `orders`, `around`, `runs`, `written`, `files`.
 #![tactic(auto)]
 
 mod around;
@@ -15,6 +15,7 @@ mod runs;
 mod sharing;
 mod sizes;
 mod slices;
+mod written;
 
 use std::env;
 

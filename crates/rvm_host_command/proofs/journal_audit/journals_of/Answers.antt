@@ -14,4 +14,4 @@ pub returns : goal.returns
 returns g c =
     c.loop-host.invariant
     ∙ ap (λ (all : List Recording). map (λ (r : Recording). r.journal) all)
-      (take_all c.loop-host.host c.args.all.now c.loop-host-test.false)
+    (take_all c.loop-host.host c.args.all.now c.loop-host-test.false)
