@@ -140,7 +140,6 @@ fn tell_write<E: Write>(errors: &mut E) -> Result<(), LinkFault>
 }
 
 /// Writes what is asked for of an order that was found, and flushes it.
-#[tactic(auto, using(crate::proofs::HostJournals::written_kept))]
 fn write_flushed<M: PagedMemory + Drop, O: Write + Drop>(
     all: &[Recorded<M>],
     order: &Order,
