@@ -131,7 +131,11 @@ fn audit_hosts<R: AllocGlobal + Print>(
 
 /// A host with an empty journal: host A has the guest.
 fn new_host(alloc: Global, id: u8) -> Option<Recorded<PagedRam>> {
-    let guest = if id == 0 { Some(new_guest(alloc)?) } else { None };
+    let guest = if id == 0 {
+        Some(new_guest(alloc)?)
+    } else {
+        None
+    };
     let host = Host::with_version(guest, id, HOSTS, 4096, 3).ok()?;
     Recorded::new(alloc, host, ENTRIES).ok()
 }
@@ -249,12 +253,7 @@ fn world_of(host: u8, case: Case) -> u64 {
 }
 
 /// Audits journals as a case asks for, and prints the status and what was written.
-fn tell<R: AllocGlobal + Print>(
-    rt: &R,
-    name: &str,
-    case: Case,
-    bytes: &[&[u8]; 3],
-) -> Option<()> {
+fn tell<R: AllocGlobal + Print>(rt: &R, name: &str, case: Case, bytes: &[&[u8]; 3]) -> Option<()> {
     for _ in 0..2 {
         let mut files = Vec::new(rt.alloc());
         list(&mut files, case, bytes)?;
@@ -274,11 +273,7 @@ fn image_of(case: Case) -> &'static [u8] {
 }
 
 /// Lists the files of a case.
-fn list<'a>(
-    files: &mut Vec<JournalFile<'a>>,
-    case: Case,
-    bytes: &[&'a [u8]; 3],
-) -> Option<()> {
+fn list<'a>(files: &mut Vec<JournalFile<'a>>, case: Case, bytes: &[&'a [u8]; 3]) -> Option<()> {
     again!(files.reserve(4));
     for index in 0..3 {
         let is_left_out = matches!(case, Case::Without(out) if out == index);
@@ -308,7 +303,11 @@ fn tell_audit<R: AllocGlobal + Print>(
     case: Case,
 ) -> Option<bool> {
     let is_order = matches!(case, Case::Order);
-    let text = if is_order { AuditText::Order } else { AuditText::Summary };
+    let text = if is_order {
+        AuditText::Order
+    } else {
+        AuditText::Summary
+    };
     let mut output = Vec::new(rt.alloc());
     let mut errors = Vec::new(rt.alloc());
     let audited = audit_journals::<PagedRam, _, _>(

@@ -25,12 +25,7 @@ pub fn write_journal(
 }
 
 /// Writes the header and a line for each entry.
-fn write_items(
-    alloc: Global,
-    header: &Header,
-    items: &[Item],
-    bytes: &mut Vec<u8>,
-) -> Option<()> {
+fn write_items(alloc: Global, header: &Header, items: &[Item], bytes: &mut Vec<u8>) -> Option<()> {
     let mut writer = JournalWriter::new(alloc, bytes, header).ok()?;
     for item in items {
         write_item(&mut writer, item);
