@@ -5,6 +5,8 @@ use Rattle.std.specs.Result.{IfOk}
 use Rattle.std.specs.Borrow.{Bor}
 use Rattle.std.proofs.lemmas.Option.{none-some, same_Some, slice_get-get_or}
 use Rattle.rvm_arguments.specs.declared.arguments.AuditJournalsArguments.{AuditJournalsArguments}
+use Rattle.rvm_host_command.specs.Audited.{AreAudited}
+use Rattle.rvm_host_command.specs.declared.journal_audit.AuditText.{AuditText}
 use Rattle.rvm_host_command.specs.declared.journal_file.JournalFile.{JournalFile}
 use Rattle.rvm_program.specs.Ended.{AreAuditedTo, AreJournals, IsOneMore, JournalsEnded, ToTell, text_of}
 use Rattle.rvm_program.specs.Files.{IsFile, Named}
@@ -52,3 +54,13 @@ pub journals_untold : {F : Type 0} (files : Named) (a : AuditJournalsArguments) 
     → OnErr r (ToTell (λ status errors. JournalsEnded files a status before))
 journals_untold files a before (Ok status) = tt
 journals_untold files a before (Err fault) = (1, [], tt)
+
+-- what was asked for was written to a buffer that holds what the output does
+pub audited_to : {F : Type 0} (r : Result ℕ F) (journals : List JournalFile) (image : List ℕ) (text asked : AuditText)
+    (buffer before after : Option (List ℕ)) → buffer ≡ before → text ≡ asked
+    → IfOk r (λ s. s ≡ 0 → AreAudited journals image text buffer after)
+    → IfOk r (λ s. s ≡ 0 → AreAuditedTo journals image asked before)
+audited_to (Ok s) journals image text asked buffer before after empty same audited = λ is.
+    (after, subst (λ t. AreAudited journals image t before after) same
+    (subst (λ b. AreAudited journals image text b after) empty (audited is)))
+audited_to (Err e) journals image text asked buffer before after empty same audited = tt

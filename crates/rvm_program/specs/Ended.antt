@@ -21,7 +21,7 @@ use Rattle.rvm_command.specs.Ends.{HasStatus, IsAsmEnd, IsDebugEnd, IsListEnd, I
 use Rattle.rvm_command.specs.Refusals.{IsTold, refused}
 use Rattle.rvm_host_command.specs.Consoles.{IsShownAgain}
 use Rattle.rvm_host_command.specs.Hosted.{IsHostedTo}
-use Rattle.rvm_host_command.specs.Journals.{AreAudited}
+use Rattle.rvm_host_command.specs.Audited.{AreAudited}
 use Rattle.rvm_host_command.specs.declared.journal_audit.AuditText.{AuditText}
 use Rattle.rvm_host_command.specs.declared.journal_audit.AuditText.TheVariants.{Order, Summary}
 use Rattle.rvm_host_command.specs.declared.journal_file.JournalFile.{JournalFile}
