@@ -10,7 +10,7 @@ use rvm_message::{Command, ExchangeRef, HostEvent, HostReply};
 use rvm_recorder::{Entry, Item, ItemRef, Rounds, Steps};
 
 /// What entries add up to. A number that is too large stays at 2^64 - 1.
-#[derive(Clone, Copy, Debug, PartialEq, Eq)]
+#[derive(Clone, Copy)]
 pub(crate) struct Counts {
     /// All of them.
     pub events: u64,

@@ -14,7 +14,7 @@ pub struct JournalFile<'a> {
 }
 
 /// What is wrong with a journal.
-#[derive(Clone, Copy, Debug, PartialEq, Eq, Error)]
+#[derive(Clone, Copy, Debug, Error)]
 pub enum FileFault {
     /// The first line is no header, or does not show its digest.
     #[error("line 1: no header of a journal")]
@@ -43,7 +43,7 @@ pub enum FileFault {
 }
 
 /// Why journals are not audited.
-#[derive(Clone, Copy, Debug, PartialEq, Eq)]
+#[derive(Clone, Copy)]
 pub(crate) enum JournalsFault {
     /// Memory ran out.
     OutOfMemory,

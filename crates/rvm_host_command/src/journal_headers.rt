@@ -10,7 +10,7 @@ use crate::journal_file::{FileFault, JournalFile, JournalsFault};
 use rvm_journal::{Header, read_header};
 
 /// Which journal is looked for.
-#[derive(Clone, Copy, Debug, PartialEq, Eq)]
+#[derive(Clone, Copy)]
 pub(crate) enum Wanted {
     /// The one whose host began with a guest.
     WithGuest,

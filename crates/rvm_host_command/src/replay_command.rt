@@ -16,7 +16,7 @@ use std::alloc::Global;
 use std::io::Write;
 
 /// Why a journal was not replayed to its end, or what its host showed was not written.
-#[derive(Clone, Copy, Debug, PartialEq, Eq)]
+#[derive(Clone, Copy)]
 enum ReplayFault {
     /// The journal is not as it must be.
     Journal(FileFault),
