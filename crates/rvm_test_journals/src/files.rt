@@ -39,9 +39,6 @@ static IMAGE: [u8; 16] = [
 /// Another image.
 static OTHER_IMAGE: [u8; 4] = [0x6F, 0, 0, 0];
 
-/// The names of the files.
-static NAMES: [&str; 4] = ["a.journal", "b.journal", "c.journal", "d.journal"];
-
 /// Which journals are audited, and how they are changed.
 #[derive(Clone, Copy)]
 enum Case {
@@ -255,14 +252,52 @@ fn world_of(host: u8, case: Case) -> u64 {
 
 /// Audits journals as a case asks for, and prints the status and what was written.
 fn tell<R: AllocGlobal + Print>(rt: &R, name: &str, case: Case, bytes: &[&[u8]; 3]) -> Option<()> {
+    let [first, second, third] = *bytes;
+    let is_empty = matches!(case, Case::Empty);
+    let third = if is_empty { b"".as_slice() } else { third };
     for _ in 0..2 {
-        let mut files = Vec::new(rt.alloc());
-        list(rt.alloc(), &mut files, case, bytes)?;
-        if tell_audit(rt, name, files.as_slice(), case)? {
+        if tell_files(rt, name, case, first, second, third)? {
             return Some(());
         }
     }
     None
+}
+
+/// Audits the files of a case, with these bytes. Returns false if memory ran out.
+fn tell_files<R: AllocGlobal + Print>(
+    rt: &R,
+    name: &str,
+    case: Case,
+    first: &[u8],
+    second: &[u8],
+    third: &[u8],
+) -> Option<bool> {
+    let alloc = rt.alloc();
+    let mut files = Vec::new(alloc);
+    if !matches!(case, Case::Without(0)) {
+        put(alloc, &mut files, "a.journal", first)?;
+    }
+    if !matches!(case, Case::Without(1)) {
+        put(alloc, &mut files, "b.journal", second)?;
+    }
+    put(alloc, &mut files, "c.journal", third)?;
+    if matches!(case, Case::Twice) {
+        put(alloc, &mut files, "d.journal", second)?;
+    }
+    tell_audit(rt, name, files.as_slice(), case)
+}
+
+/// Adds a file with this name and these bytes.
+fn put<'a>(
+    alloc: Global,
+    files: &mut Vec<JournalFile<'a>>,
+    name: &'a str,
+    bytes: &[u8],
+) -> Option<()> {
+    let mut copy = Vec::new(alloc);
+    again!(copy.extend_from_slice(bytes));
+    again!(files.reserve(1));
+    files.push(JournalFile { name, bytes: copy }).ok()
 }
 
 /// The image in a case.
@@ -271,42 +306,6 @@ fn image_of(case: Case) -> &'static [u8] {
         Case::OtherImage => &OTHER_IMAGE,
         _ => &IMAGE,
     }
-}
-
-/// Lists the files of a case.
-fn list<'a>(
-    alloc: Global,
-    files: &mut Vec<JournalFile<'a>>,
-    case: Case,
-    bytes: &[&[u8]; 3],
-) -> Option<()> {
-    again!(files.reserve(4));
-    for index in 0..3 {
-        let is_left_out = matches!(case, Case::Without(out) if out == index);
-        if !is_left_out {
-            let bytes = *bytes.get(index)?;
-            let is_empty = index == 2 && matches!(case, Case::Empty);
-            let bytes = if is_empty { b"".as_slice() } else { bytes };
-            put(alloc, files, index, bytes)?;
-        }
-    }
-    if matches!(case, Case::Twice) {
-        put(alloc, files, 3, bytes[1])?;
-    }
-    Some(())
-}
-
-/// Adds a file with this name.
-fn put<'a>(
-    alloc: Global,
-    files: &mut Vec<JournalFile<'a>>,
-    index: usize,
-    bytes: &[u8],
-) -> Option<()> {
-    let name = *NAMES.get(index)?;
-    let mut copy = Vec::new(alloc);
-    again!(copy.extend_from_slice(bytes));
-    files.push(JournalFile { name, bytes: copy }).ok()
 }
 
 /// Audits journals, and prints the status and what was written. Returns false if memory ran out.
