@@ -60,7 +60,9 @@ pub audited_to : {F : Type 0} (r : Result ℕ F) (journals : List JournalFile) (
     (buffer before after : Option (List ℕ)) → buffer ≡ before → text ≡ asked
     → IfOk r (λ s. s ≡ 0 → AreAudited journals image text buffer after)
     → IfOk r (λ s. s ≡ 0 → AreAuditedTo journals image asked before)
-audited_to (Ok s) journals image text asked buffer before after empty same audited = λ is.
-    (after, subst (λ t. AreAudited journals image t before after) same
-    (subst (λ b. AreAudited journals image text b after) empty (audited is)))
+audited_to (Ok s) journals image text asked buffer before after empty same audited = λ is. (
+  after,
+  subst (λ t. AreAudited journals image t before after) same
+      (subst (λ b. AreAudited journals image text b after) empty (audited is)),
+)
 audited_to (Err e) journals image text asked buffer before after empty same audited = tt
