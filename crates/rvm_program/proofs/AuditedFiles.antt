@@ -56,13 +56,15 @@ journals_untold files a before (Ok status) = tt
 journals_untold files a before (Err fault) = (1, [], tt)
 
 -- what was asked for was written to a buffer that holds what the output does
-pub audited_to : {F : Type 0} (r : Result ℕ F) (journals : List JournalFile) (image : List ℕ) (text asked : AuditText)
-    (buffer before after : Option (List ℕ)) → buffer ≡ before → text ≡ asked
-    → IfOk r (λ s. s ≡ 0 → AreAudited journals image text buffer after)
+pub audited_to : {F : Type 0} (r : Result ℕ F) (files journals : List JournalFile) (bytes image : List ℕ) (text asked : AuditText)
+    (buffer before after : Option (List ℕ)) → files ≡ journals → bytes ≡ image → text ≡ asked → buffer ≡ before
+    → IfOk r (λ s. s ≡ 0 → AreAudited files bytes text buffer after)
     → IfOk r (λ s. s ≡ 0 → AreAuditedTo journals image asked before)
-audited_to (Ok s) journals image text asked buffer before after empty same audited = λ is. (
+audited_to (Ok s) files journals bytes image text asked buffer before after files_are image_is text_is empty audited = λ is. (
   after,
-  subst (λ t. AreAudited journals image t before after) same
-      (subst (λ b. AreAudited journals image text b after) empty (audited is)),
+  subst (λ j. AreAudited j image asked before after) files_are
+      (subst (λ i. AreAudited files i asked before after) image_is
+      (subst (λ t. AreAudited files bytes t before after) text_is
+      (subst (λ b. AreAudited files bytes text b after) empty (audited is)))),
 )
-audited_to (Err e) journals image text asked buffer before after empty same audited = tt
+audited_to (Err e) files journals bytes image text asked buffer before after files_are image_is text_is empty audited = tt
