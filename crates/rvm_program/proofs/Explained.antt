@@ -1,11 +1,12 @@
 -- How a command ended whose report was kept in memory, and a host that is explained.
-use Rattle.std.proofs.Common.{◌≡◌, ◌<◌, ℕ, zero, suc, List, [], Option, Some, Result, Ok, Err, inl, inr, refl, subst, sym, arith}
+use Rattle.std.proofs.Common.{◌≡◌, ◌<◌, true, ℕ, zero, suc, List, [], Option, Some, Result, Ok, Err, inl, inr, refl, subst, sym, arith}
 use Rattle.std.specs.Prelude.{IfOk, OnErr}
 use Rattle.rvm_arguments.specs.declared.arguments.Arguments.{Arguments}
+use Rattle.rvm_arguments.specs.declared.arguments.CommandLine.{CommandLine}
 use Rattle.rvm_arguments.specs.declared.arguments.HostArguments.{HostArguments}
 use Rattle.rvm_program.specs.Ended.{HasEnded, HostEnded, Written, written}
 use Rattle.rvm_program.specs.Files.{Named}
-use Rattle.rvm_program.specs.Performed.{HasFailed, HasFailedEither}
+use Rattle.rvm_program.specs.Performed.{HasEndedEither, HasEndedSo, HasFailed, HasFailedEither, HasFailedSo}
 
 -- if its report may not have been written as a whole, it failed to report how it ended
 unpassed_empty : (files created : Named) (a : Arguments) (script : Option (List ℕ)) (output errors : Written) (report : List ℕ)
@@ -40,3 +41,17 @@ pub host_has_ended : {F : Type 0} (files : Named) (a : HostArguments) (output : 
     → HostEnded files a s output
 host_has_ended files a output s (Ok status) ended is none = subst (λ n. HostEnded files a n output) (sym is) ended
 host_has_ended files a output s (Err fault) none is one = subst (λ n. HostEnded files a n output) (sym one) tt
+
+-- a command whose refusal is explained has ended as its command line asks
+pub ended_so : (files created : Named) (line : CommandLine) (status : ℕ) (script : Option (List ℕ)) (output errors : Written)
+    → line.explain ≡ true → HasEndedEither files created line.arguments status script output errors
+    → HasEndedSo files created line status script output errors
+ended_so files created line status script output errors explain (inl ended) = inl ended
+ended_so files created line status script output errors explain (inr reported) = inr (explain, reported)
+
+-- and so has one with the status 1
+pub failed_so : (files created : Named) (line : CommandLine) (script : Option (List ℕ)) (output errors : Written)
+    → line.explain ≡ true → HasFailedEither files created line.arguments script output errors
+    → HasFailedSo files created line script output errors
+failed_so files created line script output errors explain (inl failed) = inl failed
+failed_so files created line script output errors explain (inr explained) = inr (explain, explained)
