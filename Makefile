@@ -8,12 +8,13 @@
 # crates looked at.
 # make stress: random scripts for worlds of hosts, against a board that never moves.
 # make hosts: guests are moved between processes, over connections that break.
+# make journals: the example journals are audited with each byte changed, and cut at each byte.
 # make install: installs what make build made, with manual pages (wants help2man), completions, documents and examples;
 # DESTDIR and PREFIX say where.
 # make live IMAGES=..: guests are moved while they run, 200 times, and their output compared with that of run.
 PREFIX ?= /usr/local
 
-.PHONY: build hi test wrong times faults docs-check stress hosts live bench bench-programs bench-journals count install uninstall clean
+.PHONY: build hi test wrong times faults docs-check stress hosts journals live bench bench-programs bench-journals count install uninstall clean
 
 # The program lies in build/rvmove afterwards.
 build:
@@ -47,6 +48,9 @@ stress: build
 
 hosts: build
 	tools/try-hosts $(TRIAL)
+
+journals: build
+	tools/try-journals
 
 live: build
 	python3 bench/live.py $(IMAGES)
