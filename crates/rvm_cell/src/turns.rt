@@ -20,7 +20,7 @@ pub struct Slice {
     /// How many turns were made.
     pub made: u32,
     pub then: Then,
-    /// Whether a drain may find bytes that the guest sent.
+    /// Whether a drain may find bytes that the guest sent. It is refused where no guest runs.
     pub has_output: bool,
 }
 
@@ -41,7 +41,7 @@ pub(crate) fn make_slice<L: Opening, M: PagedMemory + Drop, J: EventLog + Drop>(
     Slice {
         made,
         then,
-        has_output: !reached.finds_nothing(DRAIN_SIZE),
+        has_output: then != Then::Elsewhere && !reached.finds_nothing(DRAIN_SIZE),
     }
 }
 

@@ -1,6 +1,7 @@
 //! A host.
 
-ghost use Rattle.std.specs.Prelude.{◌≡◌, ◌↔◌, ◌<◌, ◌≤◌, ℕ, true, false, IfOk, IfErr, IfSome, IsErr, OnErr, None};
+ghost use Rattle.std.specs.Prelude.{◌≡◌, ◌↔◌, ◌<◌, ◌≤◌, ℕ, true, false, IfOk, IfErr, IfSome, IsErr, OnErr, None, option_map};
+ghost use Rattle.rvm_board.specs.Guest.{GuestState};
 ghost use Rattle.rvm_message.specs.Events.{command_of, event_of};
 ghost use Rattle.rvm_message.specs.Exchanges.{dry_exchange, step_of_hart};
 ghost use Rattle.rvm_message.specs.Replies.{is_refused_outright};
@@ -11,6 +12,7 @@ ghost use Rattle.rvm_guest.specs.TheGuest.{board};
 ghost use Rattle.rvm_protocol.specs.Commands as commands;
 ghost use Rattle.rvm_protocol.specs.Frames.{plain, posted};
 ghost use Rattle.rvm_protocol.specs.Host.{is_heard, is_offer_above, is_there};
+ghost use Rattle.rvm_protocol.specs.Modes.{guest_in};
 ghost use Rattle.rvm_host.specs.Bounds.{CanBePosted, addressed, frame_bound};
 ghost use Rattle.rvm_host.specs.Hosts.{Steps, host_of, is_sized, new_host, partner_of, step_of, version_of};
 ghost use Rattle.rvm_host.specs.Memory.{asks_memory, needs_memory, takes_memory};
@@ -335,6 +337,13 @@ impl<M: PagedMemory + Drop> Host<M> {
         ensures bound { IfSome result (λ n. (0 < n) × (n ≤ 8)) }
     {
         self.mode.harts()
+    }
+
+    /// Ends the host. Returns the whole guest, if it is here: whether it runs, leaves, or waits for the source to commit.
+    pub fn into_guest(self) -> Option<Debugged<M>>
+        ensures { option_map (λ (g : GuestState). g.guest) result ≡ guest_in (host_of self).mode }
+    {
+        self.mode.into_guest()
     }
 
     /// Returns the version of the host's streams, 1 to 3.

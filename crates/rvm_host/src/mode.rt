@@ -1,6 +1,7 @@
 //! The modes of a host.
 
-ghost use Rattle.std.specs.Prelude.{◌≡◌, ◌≤◌, ℕ, true, false, IfOk, OnErr, None};
+ghost use Rattle.std.specs.Prelude.{◌≡◌, ◌≤◌, ℕ, true, false, IfOk, OnErr, None, option_map};
+ghost use Rattle.rvm_board.specs.Guest.{GuestState};
 ghost use Rattle.rvm_guest.specs.TheGuest.{board};
 ghost use Rattle.rvm_message.specs.Answers.{Answers};
 ghost use Rattle.rvm_message.specs.Events.{command_of};
@@ -8,7 +9,7 @@ ghost use Rattle.rvm_message.specs.Frames.{frame_heard};
 ghost use Rattle.rvm_message.specs.Replies.{is_refused_outright};
 ghost use Rattle.rvm_message.specs.Sendable.{CanBeSent};
 ghost use Rattle.rvm_protocol.specs.Frames.{plain};
-ghost use Rattle.rvm_protocol.specs.Modes.{move_of};
+ghost use Rattle.rvm_protocol.specs.Modes.{guest_in, move_of};
 ghost use Rattle.rvm_protocol.specs.Obeying as obeying;
 ghost use Rattle.rvm_protocol.specs.Receiving as receiving;
 ghost use Rattle.rvm_host.specs.Bounds.{HasNumber, came_body, command_body};
@@ -94,6 +95,17 @@ impl<M: PagedMemory + Drop> Mode<M> {
         ensures { result ≡ runs (plain_of self.now) }
     {
         matches!(self, Mode::Run { .. })
+    }
+
+    /// The whole guest, if it is here: whether it runs, leaves, or waits for the source to commit.
+    pub(crate) fn into_guest(self) -> Option<Debugged<M>>
+        ensures { option_map (λ (g : GuestState). g.guest) result ≡ guest_in (mode_of (plain_of self)) }
+    {
+        match self {
+            Mode::Run { guest, .. } | Mode::Held { guest, .. } => Some(guest),
+            Mode::Leaving(source) => Some(source.into_guest()),
+            Mode::Empty { .. } | Mode::Given { .. } | Mode::Staging { .. } => None,
+        }
     }
 
     /// Changes to this mode, and makes the answer that is this refusal.

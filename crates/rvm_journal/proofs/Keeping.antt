@@ -1,5 +1,5 @@
 -- What is kept after one more event.
-use Rattle.std.proofs.Common.{◌≡◌, List, [], ◌++◌, Option, Some, None, refl, subst, sym}
+use Rattle.std.proofs.Common.{◌≡◌, List, [], ◌++◌, Option, Some, None, ap, refl, subst, sym, ◌∙◌}
 use Rattle.std.proofs.lemmas.List.{append-nil}
 use Rattle.rvm_message.specs.declared.event.HostEvent.{HostEvent}
 use Rattle.rvm_cell.specs.Logs.{KeepsOn}
@@ -23,3 +23,9 @@ pub keeps_all : (old new : Option (List HostEvent)) → new ≡ old → KeepsOn 
 keeps_all None new is = is
 keeps_all (Some old) None is = tt
 keeps_all (Some old) (Some new) is = subst (λ o. KeepsOn (Some old) o []) (sym is) (sym (append-nil old))
+
+-- what waits for its line, and then nothing more
+pub nothing_more : (known : Option (List HostEvent)) (waits : List HostEvent)
+    → with_more (with_more (with_more known waits) []) [] ≡ with_more known waits
+nothing_more None waits = refl
+nothing_more (Some old) waits = ap Some (append-nil ((old ++ waits) ++ []) ∙ append-nil (old ++ waits))

@@ -25,11 +25,11 @@ use Rattle.rvm_recorder.specs.Entries.{PlainEntry}
 use Rattle.rvm_recorder.specs.History.{Recording, count_of, with_entries, with_room}
 use Rattle.rvm_recorder.specs.Slices.{IsSlice, IsSliceRecorded, most_of, step_of}
 use Rattle.rvm_journal.specs.declared.noted.Noted.{Noted}
-use Rattle.rvm_journal.specs.declared.noted.Noted.TheVariants.{Turns, Command as Commanded, Came}
+use Rattle.rvm_journal.specs.declared.noted.Noted.TheVariants.{Turns, Command as Commanded, Came, End}
 use Rattle.rvm_journal.specs.declared.replay.JournalFault.{JournalFault}
 use Rattle.rvm_journal.specs.declared.replay.JournalFault.TheVariants as fault
 use Rattle.rvm_journal.specs.Headers.{first_header, header_at, header_in_line}
-use Rattle.rvm_journal.specs.Noting.{bytes_noted, came_noted, command_in, events_of, frame_noted, noted_by, noted_of, run_if, run_of, turns_noted}
+use Rattle.rvm_journal.specs.Noting.{bytes_noted, came_noted, command_in, end_noted, events_of, frame_noted, noted_by, noted_of, run_if, run_of, turns_noted}
 use Rattle.rvm_journal.specs.Replaying.{HasHarts, HasMore, IsBadLine, IsJournalFault, IsLineDone, IsLineFault, IsReplayed, LacksHeader, Records, events_in, noted_at}
 use Rattle.rvm_journal.specs.Told.{Told, at_header, digest_behind, header_told, mark, no_digest, text_in, told_by, told_in, told_of}
 use Rattle.rvm_journal.proofs.Adding.{behind_header, one_told}
@@ -97,19 +97,25 @@ harts_of_came h [] noted e = cc
 harts_of_came h (w ∷ []) noted e = harts_of_bytes h (decode_of w) noted e
 harts_of_came h (w ∷ v ∷ ws) noted e = cc
 
-harts_of_either : (s t : Bool) (turns came other : Option Noted) (noted : Noted)
-    → (turns ≡ Some noted → HasHarts noted) → (came ≡ Some noted → HasHarts noted) → (other ≡ Some noted → HasHarts noted)
-    → cond s turns (cond t came other) ≡ Some noted → HasHarts noted
-harts_of_either true t turns came other noted a b c e = a e
-harts_of_either false true turns came other noted a b c e = b e
-harts_of_either false false turns came other noted a b c e = c e
+harts_of_end : (ws : List (List ℕ)) (noted : Noted) → end_noted ws ≡ Some noted → HasHarts noted
+harts_of_end [] noted e = subst HasHarts (same_Some End noted e) tt
+harts_of_end (w ∷ ws) noted e = cc
+
+harts_of_either : (s : Bool) (this other : Option Noted) (noted : Noted) → (this ≡ Some noted → HasHarts noted)
+    → (other ≡ Some noted → HasHarts noted) → cond s this other ≡ Some noted → HasHarts noted
+harts_of_either true this other noted a b e = a e
+harts_of_either false this other noted a b e = b e
 
 harts_of_words : (n h : ℕ) (text : List ℕ) (ws : List (List ℕ)) (noted : Noted) → noted_by n h text ws ≡ Some noted → HasHarts noted
 harts_of_words n h text [] noted e = cc
 harts_of_words n h text (w ∷ ws) noted e =
-    harts_of_either (bytes_eq w (codes "turns")) (bytes_eq w (codes "came")) (turns_noted ws) (came_noted h ws)
-    (option_map Commanded (command_in h (world_line_of n text))) noted
-    (harts_of_turns ws noted) (harts_of_came h ws noted) (harts_of_command (command_in h (world_line_of n text)) noted) e
+    let command : Option Noted = option_map Commanded (command_in h (world_line_of n text)) in
+    let ended : Option Noted = cond (bytes_eq w (codes "end")) (end_noted ws) command in
+    let came : Option Noted = cond (bytes_eq w (codes "came")) (came_noted h ws) ended in
+    harts_of_either (bytes_eq w (codes "turns")) (turns_noted ws) came noted (harts_of_turns ws noted)
+    (harts_of_either (bytes_eq w (codes "came")) (came_noted h ws) ended noted (harts_of_came h ws noted)
+    (harts_of_either (bytes_eq w (codes "end")) (end_noted ws) command noted (harts_of_end ws noted)
+    (harts_of_command (command_in h (world_line_of n text)) noted))) e
 
 pub harts_of_noted : (n h : ℕ) (text : List ℕ) (noted : Noted) → noted_of n h text ≡ Some noted → HasHarts noted
 unfolding noted_of

@@ -24,7 +24,7 @@ use Rattle.rvm_core.specs.declared.world_line.WorldLine.TheVariants as line
 use Rattle.rvm_core.specs.WorldLines.{world_line_of}
 use Rattle.rvm_cell.specs.Logs.{steps_from}
 use Rattle.rvm_journal.specs.declared.noted.Noted.{Noted}
-use Rattle.rvm_journal.specs.declared.noted.Noted.TheVariants.{Turns, Command as Commanded, Came}
+use Rattle.rvm_journal.specs.declared.noted.Noted.TheVariants.{Turns, Command as Commanded, Came, End}
 
 -- turns of 1 to 8 harts, the first of which is that of one of them
 abbrev pub run_of : (first harts count : ℕ) → Option Noted
@@ -84,13 +84,19 @@ abbrev pub command_in : (host : ℕ) → Option WorldLine → Option Command
 command_in h (Some (line.Host (Some x) a)) = if x == h then commanded h a else None
 command_in h l = None
 
+-- the end of a journal, if no word comes after `end`
+abbrev pub end_noted : List (List ℕ) → Option Noted
+end_noted [] = Some End
+end_noted (w ∷ ws) = None
+
 -- what words tell, which are those of this text
 abbrev pub noted_by : (hosts host : ℕ) → (text : List ℕ) → List (List ℕ) → Option Noted
 noted_by n h text [] = None
 noted_by n h text (w ∷ ws) =
     if bytes_eq w (codes "turns") then turns_noted ws
     else (if bytes_eq w (codes "came") then came_noted h ws
-    else option_map Commanded (command_in h (world_line_of n text)))
+    else (if bytes_eq w (codes "end") then end_noted ws
+    else option_map Commanded (command_in h (world_line_of n text))))
 
 -- what a text tells of host `host` of this many hosts; none if it tells nothing
 unfoldable pub noted_of : (hosts host : ℕ) → (text : List ℕ) → Option Noted
@@ -101,3 +107,4 @@ abbrev pub events_of : Noted → List HostEvent
 events_of (Turns run) = steps_from run.first run.harts run.count
 events_of (Commanded c) = event.Do c ∷ []
 events_of (Came from frame) = event.Came from frame ∷ []
+events_of End = []

@@ -1,13 +1,14 @@
 -- A journal that is read: a recorded host does what its lines tell.
-use Rattle.std.specs.Prelude.{◌≡◌, ◌⊎◌, ⊤, ℕ, ◌+◌, ◌≤◌, if◌then◌else◌, List, [], ◌∷◌, ◌++◌, length, map, take, Option, Some, None}
+use Rattle.std.specs.Prelude.{◌≡◌, ◌⊎◌, ⊤, ℕ, ◌+◌, ◌≤◌, Bool, if◌then◌else◌, List, [], ◌∷◌, ◌++◌, codes, length, map, take, Option, Some, None}
 use Rattle.std.specs.Str.{bytes_eq}
+use Rattle.rvm_debug.specs.Words.{lines}
 use Rattle.rvm_message.specs.declared.event.HostEvent.{HostEvent}
 use Rattle.rvm_recorder.specs.declared.error.RecordError.{RecordError}
 use Rattle.rvm_recorder.specs.declared.error.RecordError.TheVariants as record_error
 use Rattle.rvm_recorder.specs.Entries.{PlainEntry}
 use Rattle.rvm_recorder.specs.History.{Recording, count_of}
 use Rattle.rvm_journal.specs.declared.noted.Noted.{Noted}
-use Rattle.rvm_journal.specs.declared.noted.Noted.TheVariants.{Turns, Command as Commanded, Came}
+use Rattle.rvm_journal.specs.declared.noted.Noted.TheVariants.{Turns, Command as Commanded, Came, End}
 use Rattle.rvm_journal.specs.declared.replay.JournalFault.{JournalFault}
 use Rattle.rvm_journal.specs.declared.replay.JournalFault.TheVariants.{BadLine, TooLong, OutOfMemory}
 use Rattle.rvm_journal.specs.Noting.{events_of, noted_of}
@@ -16,6 +17,15 @@ use Rattle.rvm_journal.specs.Told.{Told, digest_behind, header_told, mark, text_
 -- the events of entries
 abbrev pub events_in : List PlainEntry → List HostEvent
 events_in entries = map (λ x. x.event) entries
+
+-- the last of some lines that come after this one
+abbrev pub last_of : (line : List ℕ) → (lines : List (List ℕ)) → List ℕ
+last_of line [] = line
+last_of line (l ∷ ls) = last_of l ls
+
+-- whether a journal is whole: its last line tells its end
+abbrev pub is_whole : (bytes : List ℕ) → Bool
+is_whole bytes = bytes_eq (text_in (last_of [] (lines bytes))) (codes "end")
 
 -- these events were recorded, in order, after those that were there; the host with which the journal opened and the
 -- number of entries that it takes are as they were
@@ -68,6 +78,7 @@ abbrev pub HasHarts : Noted → Type 0
 HasHarts (Turns run) = (1 ≤ run.harts) × (run.harts ≤ 8)
 HasHarts (Commanded c) = ⊤
 HasHarts (Came from f) = ⊤
+HasHarts End = ⊤
 
 -- what the text of a line tells, if the line shows this digest
 abbrev pub noted_at : (hosts host : ℕ) → (digest line : List ℕ) → Option Noted

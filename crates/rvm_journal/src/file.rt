@@ -11,7 +11,7 @@ ghost use Rattle.rvm_message.specs.declared.event.HostEvent.TheVariants.{Came, D
 use crate::digest::LineDigest;
 use crate::noted::Noted;
 use crate::run::Run;
-use crate::texts::{came_text, command_text, turns_text};
+use crate::texts::{END, came_text, command_text, turns_text};
 use rvm_frame::Frame;
 use rvm_message::Command;
 use rvm_refusal::LinkFault;
@@ -121,11 +121,13 @@ impl<W: Write + Drop> JournalFile<W> {
         self.with_run(Run::of(turn, harts, count))
     }
 
-    /// Writes the turns that have no line yet, and hands all that was written to the system.
-    pub(crate) fn flush(self) -> Result<JournalFile<W>, LinkFault>
+    /// Writes the turns that have no line yet and the line that ends the journal, and hands all that was written to the
+    /// system.
+    #[tactic(auto, using(crate::proofs::Keeping::nothing_more))]
+    pub(crate) fn end(self) -> Result<JournalFile<W>, LinkFault>
         ensures { IfOk result (λ file. kept_of file ≡ kept_of self) }
     {
-        let mut file = self.without_run()?;
+        let mut file = self.without_run()?.line(END, &Noted::End)?;
         file.writer.flush()?;
         Ok(file)
     }

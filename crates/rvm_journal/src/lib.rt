@@ -20,6 +20,6 @@ mod writer;
 pub use digest::LineDigest;
 pub use header::{Header, Image};
 pub use noted::Noted;
-pub use replay::{JournalFault, read_header, replay_journal};
+pub use replay::{JournalFault, is_whole, read_header, replay_journal};
 pub use run::Run;
 pub use writer::JournalWriter;

@@ -6,7 +6,7 @@ ghost use Rattle.rvm_core.specs.WorldLines.{world_line_of};
 ghost use Rattle.rvm_core.specs.declared.world_line.WorldLine.TheVariants as line;
 ghost use Rattle.rvm_debug.specs.declared.line.Line.TheVariants as guest;
 ghost use Rattle.rvm_frame.specs.Verdict.{one_frame_of, verdict};
-ghost use Rattle.rvm_journal.specs.Noting.{bytes_noted, came_noted, command_in, commanded, event_in, frame_noted, noted_of, run_of, target_of, turns_noted};
+ghost use Rattle.rvm_journal.specs.Noting.{bytes_noted, came_noted, command_in, commanded, end_noted, event_in, frame_noted, noted_of, run_of, target_of, turns_noted};
 ghost use Rattle.rvm_journal.specs.declared.noted.Noted.TheVariants.{Command as Commanded};
 
 use crate::run::Run;
@@ -30,6 +30,8 @@ pub enum Noted {
     Command(Command),
     /// A frame that came from host `from`.
     Came { from: u8, frame: Frame },
+    /// The end of the journal: the host does nothing more.
+    End,
 }
 
 impl Noted {
@@ -53,6 +55,9 @@ impl Noted {
         }
         if word == b"came".as_slice() {
             return came(alloc, host, words);
+        }
+        if word == b"end".as_slice() {
+            return Ok(end(words));
         }
         Ok(command_of_line(hosts, host, text))
     }
@@ -79,6 +84,17 @@ fn run_of(first: u32, harts: u32, count: u32) -> Option<Noted>
             harts,
             count,
         }))
+    } else {
+        None
+    }
+}
+
+/// The end of a journal, if no word comes after `end`.
+fn end(words: Words) -> Option<Noted>
+    ensures { result ≡ end_noted words.entry }
+{
+    if words.is_empty() {
+        Some(Noted::End)
     } else {
         None
     }

@@ -7,13 +7,14 @@ ghost use Rattle.rvm_debug.specs.Words.{lines};
 ghost use Rattle.rvm_message.specs.declared.event.HostEvent.TheVariants.{Came};
 ghost use Rattle.rvm_journal.specs.Headers.{IsRanged, header_at, header_in_line};
 ghost use Rattle.rvm_journal.specs.Noting.{events_of};
-ghost use Rattle.rvm_journal.specs.Replaying.{HasHarts, HasMore, IsFull, IsJournalFault, IsLineDone, IsLineFault, IsReplayed, Records, noted_at};
+ghost use Rattle.rvm_journal.specs.Replaying.{HasHarts, HasMore, IsFull, IsJournalFault, IsLineDone, IsLineFault, IsReplayed, Records, is_whole, last_of, noted_at};
 ghost use Rattle.rvm_journal.specs.Told.{header_told, mark, text_in};
 
 use crate::digest::{LineDigest, MARK};
 use crate::header::Header;
 use crate::noted::Noted;
 use crate::run::Run;
+use crate::texts::END;
 use rvm_debug::split_line;
 use rvm_frame::Frame;
 use rvm_mem::PagedMemory;
@@ -82,6 +83,26 @@ fn begin(line: &[u8]) -> Option<LineDigest>
     } else {
         None
     }
+}
+
+/// Whether a journal with these bytes is whole: its last line tells its end. Another one was cut off: its process was
+/// killed, or a line could not be written. Looks at no digest.
+pub fn is_whole(bytes: &[u8]) -> bool
+    ensures { result ≡ is_whole bytes.now }
+{
+    text_in(last_line(bytes)) == END
+}
+
+/// The last line of a text; nothing if the text has no line.
+fn last_line(text: &[u8]) -> &[u8]
+    ensures { result.now ≡ last_of [] (lines text.now) }
+{
+    let mut last: &[u8] = &[];
+    let mut rest = text;
+    while !rest.is_empty() {
+        (last, rest) = split_line(rest);
+    }
+    last
 }
 
 /// Reads the header of a journal with these bytes: that of the text of the first line. None if there is no line, if the
@@ -177,6 +198,7 @@ fn text_in(line: &[u8]) -> &[u8]
 }
 
 /// Has a recorded host do what a line tells. Fails if memory runs out, or if the recorder takes no more entries.
+#[tactic(auto, using(crate::proofs::Replayed::none_recorded))]
 fn do_noted<M: PagedMemory + Drop>(
     alloc: Global,
     noted: Noted,
@@ -191,6 +213,7 @@ fn do_noted<M: PagedMemory + Drop>(
         Noted::Turns(run) => do_turns(alloc, run, recorded),
         Noted::Command(command) => do_event(alloc, HostEvent::Do(command), recorded),
         Noted::Came { from, frame } => do_came(alloc, from, frame, recorded),
+        Noted::End => Ok(()),
     }
 }
 

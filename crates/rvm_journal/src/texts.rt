@@ -9,6 +9,9 @@ use rvm_refusal::LinkFault;
 use std::alloc::{AllocError, Global};
 use std::io::Write;
 
+/// The text of the last line of a journal that is whole.
+pub(crate) const END: &[u8] = b"end";
+
 /// The text of turns.
 pub(crate) fn turns_text(alloc: Global, run: Run) -> Result<Vec<u8>, LinkFault> {
     let mut text = Vec::new(alloc);

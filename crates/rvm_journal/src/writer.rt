@@ -17,8 +17,8 @@ use std::io::Write;
 use std::marker::Model;
 
 /// Writes the journal of a host, line by line: each event is handed to the system when it is kept, but for turns, which
-/// share a line with the turns before and after them. If a line cannot be written, or memory runs out, the journal ends
-/// with the line before it, and nothing is kept from then on.
+/// share a line with the turns before and after them. When it is finished, its last line says so. If a line cannot be
+/// written, or memory runs out, the journal is cut off behind the line before it, and nothing is kept from then on.
 #[derive(Drop)]
 pub struct JournalWriter<W: Write + Drop> {
     file: Option<JournalFile<W>>,
@@ -65,7 +65,7 @@ impl<W: Write + Drop> EventLog for JournalWriter<W> {
     }
 
     fn finish(&mut self) -> Result<(), LinkFault> {
-        self.file = flushed(self.file.take());
+        self.file = ended(self.file.take());
         match self.file {
             Some(_) => Ok(()),
             None => Err(LinkFault),
@@ -109,10 +109,10 @@ fn turned<W: Write + Drop>(
     file?.turns(turn, harts, count).ok()
 }
 
-/// A journal all of whose turns have lines, unless it has ended, or ends since a line cannot be written.
+/// A journal with its last line, unless it has ended before, or ends since a line cannot be written.
 #[tactic(auto, using(crate::proofs::Keeping::keeps_all, crate::proofs::Keeping::lost))]
-fn flushed<W: Write + Drop>(file: Option<JournalFile<W>>) -> Option<JournalFile<W>>
+fn ended<W: Write + Drop>(file: Option<JournalFile<W>>) -> Option<JournalFile<W>>
     ensures { KeepsOn (option_and_then kept_of file) (option_and_then kept_of result) [] }
 {
-    file?.flush().ok()
+    file?.end().ok()
 }

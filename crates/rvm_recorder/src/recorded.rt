@@ -1,9 +1,11 @@
 //! A host with its journal.
 
-ghost use Rattle.std.specs.Prelude.{◌≡◌, ◌⊎◌, ◌↔◌, ◌+◌, ◌-◌, ◌%◌, ◌∷◌, ◌++◌, ◌<◌, ◌≤◌, [], true, IfOk, IfErr, IfNone, IfSome, IsErr, IsOk, None, OnErr, OnOk, Some, vec_capacity, vec_len};
+ghost use Rattle.std.specs.Prelude.{◌≡◌, ◌⊎◌, ◌↔◌, ◌+◌, ◌-◌, ◌%◌, ◌∷◌, ◌++◌, ◌<◌, ◌≤◌, [], true, IfOk, IfErr, IfNone, IfSome, IsErr, IsOk, None, OnErr, OnOk, Some, option_map, vec_capacity, vec_len};
+ghost use Rattle.rvm_board.specs.Guest.{GuestState};
+ghost use Rattle.rvm_protocol.specs.Modes.{guest_in};
 ghost use Rattle.rvm_recorder.specs.Entries.{silent};
 ghost use Rattle.rvm_recorder.specs.Errors.{IsRecordError, IsReserveError};
-ghost use Rattle.rvm_recorder.specs.History.{IsRecorded, bytes_of, count_of, is_board, with_entries, with_room};
+ghost use Rattle.rvm_recorder.specs.History.{IsRecorded, bytes_of, count_of, host_now, is_board, with_entries, with_room};
 ghost use Rattle.rvm_recorder.specs.Items.{all_of, entries_in, last_of, one_if, steps_in_turn, steps_of};
 ghost use Rattle.rvm_recorder.specs.Keeping.{CanBeKept};
 ghost use Rattle.rvm_message.specs.Exchanges.{dry_exchange, exchange, step_of_hart};
@@ -16,6 +18,7 @@ use crate::item::{Item, push_dry, push_steps};
 use crate::journal::{Journal, make_room};
 use crate::run::StepRun;
 use crate::steps::Steps;
+use rvm_board::Debugged;
 use rvm_frame::Addressed;
 use rvm_host::{BadSize, Host};
 use rvm_mem::PagedMemory;
@@ -96,6 +99,18 @@ impl<M: PagedMemory + Drop> Recorded<M> {
         ensures { result.now ≡ self.now.journal }
     {
         &self.journal
+    }
+
+    /// Ends the recorder. Returns the whole guest, if it is at the host after all that the journal has.
+    pub fn into_guest(self) -> Option<Debugged<M>>
+        ensures { option_map (λ (g : GuestState). g.guest) result ≡ guest_in (host_now self).mode }
+    {
+        let Recorded {
+            host,
+            journal: _,
+            capacity: _,
+        } = self;
+        host.into_guest()
     }
 
     /// Returns how many entries the journal has.
