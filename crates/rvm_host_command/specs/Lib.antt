@@ -5,4 +5,7 @@ pub mod Journals
 pub mod Consoles
 pub mod Counts
 pub mod Audited
+pub mod FileFaults
+pub mod Unaudited
+pub mod Findings
 pub mod Processes

@@ -4,6 +4,7 @@ ghost use Rattle.std.specs.Prelude.{◌≡◌, ◌++◌, codes, IfOk, IfSome};
 ghost use Rattle.std.specs.Io.KnownBytes.{Appends};
 ghost use Rattle.rvm_cell.specs.Movers.{IsMoveEnd};
 ghost use Rattle.rvm_host_command.specs.Told.{AreStepsTold, IsAskedTold, IsCommandTold, IsEventTold, IsInputTold, IsLastInput, IsLastStep, IsLineTold, IsMoveTold, outcome_of};
+ghost use Rattle.rvm_host_command.specs.Unaudited.{letter_of};
 ghost use Rattle.rvm_message.specs.declared.event.Command.TheVariants as command;
 ghost use Rattle.rvm_message.specs.declared.event.HostEvent.TheVariants.{Do};
 ghost use Rattle.rvm_refusal.specs.Refusal.{text_of};
@@ -164,7 +165,9 @@ fn name_of(kind: ModeKind) -> &'static str {
 }
 
 /// The letter of a host.
-pub(crate) fn letter_of(host: u8) -> char {
+pub(crate) fn letter_of(host: u8) -> char
+    ensures { result ≡ letter_of host }
+{
     char::from(b'A'.saturating_add(host))
 }
 

@@ -1,20 +1,24 @@
 //! `rvmove audit-journals`: whether what the hosts of a world noted, each by itself, has one order.
 
-ghost use Rattle.std.specs.Prelude.{◌≡◌, ◌⊎◌, ◌≤◌, IfOk, OnOk, length, map};
+ghost use Rattle.std.specs.Prelude.{◌≡◌, ◌≤◌, List, IfOk, OnErr, OnOk, length, map};
 ghost use Rattle.std.specs.Io.Buffered.{writer_contents};
-ghost use Rattle.rvm_audit.specs.Audits.{IsAudit, histories_of};
+ghost use Rattle.rvm_audit.specs.Audits.{histories_of};
 ghost use Rattle.rvm_command.specs.Flushed.{is_flushed};
 ghost use Rattle.rvm_command.specs.Refusals.{IsTold, refused};
 ghost use Rattle.rvm_refusal.specs.declared.refusal.Refusal.TheVariants as refusal;
-ghost use Rattle.rvm_host_command.specs.Audited.{AreAudited, IsOrdered, IsWritten, journals_in};
+ghost use Rattle.rvm_audit.specs.Rule.{IsMerge};
+ghost use Rattle.rvm_host_command.specs.Audited.{IsWritten, journals_in};
+ghost use Rattle.rvm_host_command.specs.Findings.{HasAuditStatus, HasFindingStatus, IsFinding, IsUntoldAudit, IsUntoldFinding};
+ghost use Rattle.rvm_host_command.specs.declared.journal_file.JournalFile.{JournalFile};
 
 use crate::answers::letter_of;
+use crate::journal_cuts::cuts_of;
 use crate::journal_file::{JournalFile, JournalsFault};
 use crate::journal_headers::{Wanted, index_of};
 use crate::journal_summary::write_summary;
 use crate::journal_world::replay_all;
 use rvm_audit::laws::the_guest_of_an_order_never_moves;
-use rvm_audit::{Audit, Order, Place, audit_all, write_order};
+use rvm_audit::{Audit, Order, Place, are_contradictory, audit_all, write_order};
 use rvm_command::flush::flush;
 use rvm_command::refused::{Refused, tell};
 use rvm_mem::PagedMemory;
@@ -22,6 +26,9 @@ use rvm_recorder::{Journal, Recorded};
 use rvm_refusal::{LinkFault, Refusal};
 use std::alloc::{AllocError, Global};
 use std::io::{BufWriter, Write};
+
+/// The status of an audit that found no order, where what was cut off may be the reason.
+const UNDECIDED: u8 = 3;
 
 /// What an audit of journals writes.
 #[derive(Clone, Copy, Debug, PartialEq, Eq)]
@@ -32,14 +39,28 @@ pub enum AuditText {
     Order,
 }
 
+/// What an audit found.
+#[derive(Drop)]
+pub(crate) enum Finding {
+    /// The journals have an order, which is this one.
+    InOrder(Order),
+    /// The journals contradict one another: they have no order, however those of them that were cut off went on. Up to
+    /// these places they have one.
+    Contradicted(Vec<Place>),
+    /// The journals have an order up to these places, and what was cut off may explain the rest.
+    Undecided(Vec<Place>),
+}
+
 /// Has the hosts of a world do again what their journals tell, and looks for one order of all their events. `files` are
 /// journals of hosts of one world, in any order: exactly one is of the host that began with the guest of `image`, and no
-/// two are of one host. A host without a journal is taken to have done nothing.
+/// two are of one host. A host without a journal is taken to have done nothing. A journal that does not tell its end was
+/// cut off: what its host did after it is not known.
 ///
 /// Returns the status. It is 0 if there is an order: then it is a run of one world in which the guest never moved, what
-/// `text` asks for is written, and `output` is flushed. It is 1 if there is none, if a journal is refused, if memory runs
-/// out, or if a write to `output` fails: `errors` says which journal is refused and why, how much of each journal is in
-/// order, or `LinkFault` for a write. The error `LinkFault` says that a write to `errors` failed.
+/// `text` asks for is written, and `output` is flushed. It is 3 if there is none, and what was cut off may be the reason.
+/// It is 1 if there is none whatever was cut off, if a journal is refused, if memory runs out, or if a write to `output`
+/// fails. `errors` says which journal is refused and why, how much of each journal is in order, or `LinkFault` for a
+/// write. The error `LinkFault` says that a write to `errors` failed.
 pub fn audit_journals<M: PagedMemory + Drop, O: Write + Drop, E: Write>(
     alloc: Global,
     files: &[JournalFile<'_>],
@@ -48,14 +69,12 @@ pub fn audit_journals<M: PagedMemory + Drop, O: Write + Drop, E: Write>(
     output: &mut BufWriter<O>,
     errors: &mut E,
 ) -> Result<u8, LinkFault>
-    ensures status { IfOk result (λ status. (status ≡ 0) ⊎ (status ≡ 1)) }
-    ensures order { IfOk result (λ status. status ≡ 0 → AreAudited files.now image.now text
-        (writer_contents O.contents output.old) (writer_contents O.contents output.new)) }
+    ensures status { IfOk result (λ status. HasAuditStatus status files.now image.now text
+        (writer_contents O.contents output.old) (writer_contents O.contents output.new)
+        (E.contents errors.old) (E.contents errors.new)) }
     ensures out { IfOk result (λ status. status ≡ 0 → is_flushed output.new) }
-    ensures silent { IfOk result (λ status. status ≡ 0 → E.contents errors.new ≡ E.contents errors.old) }
-    ensures none { IfOk result (λ status. status ≡ 1
-        → (writer_contents O.contents output.new ≡ writer_contents O.contents output.old)
-        ⊎ IsTold (refused refusal.LinkFault) (E.contents errors.old) (E.contents errors.new)) }
+    ensures untold { OnErr result (IsUntoldAudit files.now image.now text
+        (writer_contents O.contents output.old) (writer_contents O.contents output.new)) }
 {
     match replay_all::<M>(alloc, files, image) {
         Ok(all) => {
@@ -82,24 +101,51 @@ fn audit_replayed<M: PagedMemory + Drop, O: Write + Drop, E: Write>(
     errors: &mut E,
 ) -> Result<u8, LinkFault>
     requires { length all.now ≤ 8 }
-    ensures status { IfOk result (λ status. (status ≡ 0) ⊎ (status ≡ 1)) }
-    ensures order { IfOk result (λ status. status ≡ 0 → IsOrdered text all.now
-        (writer_contents O.contents output.old) (writer_contents O.contents output.new)) }
+    ensures status { IfOk result (λ status. HasFindingStatus status files.now all.now text
+        (writer_contents O.contents output.old) (writer_contents O.contents output.new)
+        (E.contents errors.old) (E.contents errors.new)) }
     ensures out { IfOk result (λ status. status ≡ 0 → is_flushed output.new) }
-    ensures silent { IfOk result (λ status. status ≡ 0 → E.contents errors.new ≡ E.contents errors.old) }
-    ensures none { IfOk result (λ status. status ≡ 1
-        → (writer_contents O.contents output.new ≡ writer_contents O.contents output.old)
-        ⊎ IsTold (refused refusal.LinkFault) (E.contents errors.old) (E.contents errors.new)) }
+    ensures untold { OnErr result (IsUntoldFinding files.now all.now text
+        (writer_contents O.contents output.old) (writer_contents O.contents output.new)) }
 {
-    match order_of(alloc, all) {
-        Ok(Audit::Order(order)) => write_audit(all, &order, text, output, errors),
-        Ok(Audit::NoOrder(places)) => {
+    match find(alloc, files, all) {
+        Ok(Finding::InOrder(order)) => write_audit(all, &order, text, output, errors),
+        Ok(Finding::Contradicted(places)) => {
             tell_places(files, all, places.as_slice(), errors)?;
+            tell_refusal(Refusal::NoOrder, errors)?;
             Ok(1)
+        }
+        Ok(Finding::Undecided(places)) => {
+            tell_places(files, all, places.as_slice(), errors)?;
+            writeln!(errors, "undecided: what was cut off may have sent the rest")?;
+            Ok(UNDECIDED)
         }
         Err(_) => {
             tell_refusal(Refusal::OutOfMemory, errors)?;
             Ok(1)
+        }
+    }
+}
+
+/// Looks for an order of the journals of these hosts; if there is none, whether they contradict one another.
+fn find<M: PagedMemory + Drop>(
+    alloc: Global,
+    files: &[JournalFile<'_>],
+    all: &[Recorded<M>],
+) -> Result<Finding, AllocError>
+    requires { length all.now ≤ 8 }
+    ensures { IfOk result (IsFinding files.now all.now) }
+{
+    let journals = journals_of(alloc, all)?;
+    match audit_all(alloc, journals.as_slice())? {
+        Audit::Order(order) => Ok(Finding::InOrder(order)),
+        Audit::NoOrder(places) => {
+            let cuts = cuts_of(alloc, files, all.len() as u8)?;
+            if are_contradictory(alloc, journals.as_slice(), cuts.as_slice())? {
+                Ok(Finding::Contradicted(places))
+            } else {
+                Ok(Finding::Undecided(places))
+            }
         }
     }
 }
@@ -113,14 +159,14 @@ fn write_audit<M: PagedMemory + Drop, O: Write + Drop, E: Write>(
     output: &mut BufWriter<O>,
     errors: &mut E,
 ) -> Result<u8, LinkFault>
-    requires { length all.now ≤ 8 }
-    ensures status { IfOk result (λ status. (status ≡ 0) ⊎ (status ≡ 1)) }
-    ensures written { IfOk result (λ status. status ≡ 0 → IsWritten text all.now order.now
-        (writer_contents O.contents output.old) (writer_contents O.contents output.new)) }
+    requires few { length all.now ≤ 8 }
+    requires merge { IsMerge (journals_in all.now) order.now }
+    ensures status { (files : List JournalFile) → IfOk result (λ status. HasFindingStatus status files all.now text
+        (writer_contents O.contents output.old) (writer_contents O.contents output.new)
+        (E.contents errors.old) (E.contents errors.new)) }
     ensures out { IfOk result (λ status. status ≡ 0 → is_flushed output.new) }
-    ensures silent { IfOk result (λ status. status ≡ 0 → E.contents errors.new ≡ E.contents errors.old) }
-    ensures failed { IfOk result (λ status. status ≡ 1
-        → IsTold (refused refusal.LinkFault) (E.contents errors.old) (E.contents errors.new)) }
+    ensures untold { (files : List JournalFile) → OnErr result (IsUntoldFinding files all.now text
+        (writer_contents O.contents output.old) (writer_contents O.contents output.new)) }
 {
     match write_flushed(all, order, text, output) {
         Ok(()) => Ok(0),
@@ -153,15 +199,6 @@ fn write_flushed<M: PagedMemory + Drop, O: Write + Drop>(
 {
     write_text(all, order, text, output)?;
     flush(output)
-}
-
-/// The order of the journals of these hosts, or the places up to which they have one.
-fn order_of<M: PagedMemory + Drop>(alloc: Global, all: &[Recorded<M>]) -> Result<Audit, AllocError>
-    requires { length all.now ≤ 8 }
-    ensures { IfOk result (IsAudit (journals_in all.now)) }
-{
-    let journals = journals_of(alloc, all)?;
-    audit_all(alloc, journals.as_slice())
 }
 
 /// The journals of these hosts.
@@ -201,7 +238,7 @@ fn tell_refusal<E: Write>(refusal: Refusal, errors: &mut E) -> Result<(), LinkFa
     Ok(())
 }
 
-/// Reports how much of the journal of each host is in order, and that there is no order of all.
+/// Reports how much of the journal of each host is in order.
 fn tell_places<M: PagedMemory + Drop, E: Write>(
     files: &[JournalFile<'_>],
     all: &[Recorded<M>],
@@ -220,7 +257,7 @@ fn tell_places<M: PagedMemory + Drop, E: Write>(
             "{letter}: {entries} of {count} events in order ({name})"
         )?;
     }
-    tell_refusal(Refusal::NoOrder, errors)
+    Ok(())
 }
 
 /// The name of the journal of a host.

@@ -1,7 +1,9 @@
 //! All hosts of a world do again what their journals tell.
 
-ghost use Rattle.std.specs.Prelude.{◌≡◌, ◌∷◌, ◌++◌, ◌≤◌, [], IfOk, OnOk, length};
+ghost use Rattle.std.specs.Prelude.{◌≡◌, ◌∷◌, ◌++◌, ◌≤◌, ◌<◌, [], IfErr, IfOk, OnOk, length};
 ghost use Rattle.rvm_host_command.specs.Audited.{AllDone, AreReplayed, HasDone, IsHostAt, IsIdle};
+ghost use Rattle.rvm_host_command.specs.Unaudited.{IsJournalsFault};
+ghost use Rattle.rvm_host_command.specs.declared.journal_file.JournalsFault.TheVariants.{OutOfMemory};
 
 use crate::journal_file::{FileFault, JournalFile, JournalsFault};
 use crate::journal_headers::{Wanted, header_number, hosts_of_world, index_of};
@@ -21,6 +23,7 @@ pub(crate) fn replay_all<M: PagedMemory + Drop>(
 ) -> Result<Vec<Recorded<M>>, JournalsFault>
     ensures done { IfOk result (λ all. AreReplayed files.now image.now all.items) }
     ensures few { IfOk result (λ all. length all.items ≤ 8) }
+    ensures fault { IfErr result (IsJournalsFault files.now image.now) }
 {
     let hosts = hosts_of_world(files)?;
     let mut all = Vec::new(alloc);
@@ -42,9 +45,11 @@ fn replay_each<M: PagedMemory + Drop>(
     hosts: u8,
     all: &mut Vec<Recorded<M>>,
 ) -> Result<(), JournalsFault>
-    requires { all.old.items ≡ [] }
+    requires none { all.old.items ≡ [] }
+    requires hosts { (2 ≤ hosts) × (hosts ≤ 8) }
     ensures each { OnOk result (AllDone files.now image.now hosts all.new.items) }
     ensures long { OnOk result (length all.new.items ≡ hosts) }
+    ensures fault { IfErr result (IsJournalsFault files.now image.now) }
 {
     for host in 0..hosts {
         let recorded = replay_host(alloc, files, image, hosts, host)?;
@@ -58,7 +63,8 @@ fn keep<M: PagedMemory + Drop>(
     all: &mut Vec<Recorded<M>>,
     recorded: Recorded<M>,
 ) -> Result<(), JournalsFault>
-    ensures { OnOk result (all.new.items ≡ all.old.items ++ recorded ∷ []) }
+    ensures kept { OnOk result (all.new.items ≡ all.old.items ++ recorded ∷ []) }
+    ensures memory { IfErr result (λ fault. fault ≡ OutOfMemory) }
 {
     match all.push(recorded) {
         Ok(()) => Ok(()),
@@ -74,25 +80,26 @@ fn replay_host<M: PagedMemory + Drop>(
     hosts: u8,
     host: u8,
 ) -> Result<Recorded<M>, JournalsFault>
-    ensures { IfOk result (HasDone files.now image.now hosts host) }
+    requires hosts { (2 ≤ hosts) × (hosts ≤ 8) }
+    requires host { host < hosts }
+    ensures done { IfOk result (HasDone files.now image.now hosts host) }
+    ensures fault { IfErr result (IsJournalsFault files.now image.now) }
 {
     match index_of(files, Wanted::OfHost(host))? {
         Some(index) => replay_file(alloc, files, index, image),
-        None => idle_host(alloc, hosts, host),
+        None => Ok(idle_host(alloc, hosts, host)),
     }
 }
 
 /// Makes a host that does nothing.
-fn idle_host<M: PagedMemory + Drop>(
-    alloc: Global,
-    hosts: u8,
-    host: u8,
-) -> Result<Recorded<M>, JournalsFault>
-    ensures { IfOk result (IsIdle hosts host) }
+fn idle_host<M: PagedMemory + Drop>(alloc: Global, hosts: u8, host: u8) -> Recorded<M>
+    requires hosts { (2 ≤ hosts) × (hosts ≤ 8) }
+    requires host { host < hosts }
+    ensures { IsIdle hosts host result }
 {
     match open_host(alloc, None, hosts, host) {
-        Ok(recorded) => Ok(recorded),
-        Err(_) => Err(JournalsFault::NoGuest),
+        Ok(recorded) => recorded,
+        Err(_) => unreachable!(),
     }
 }
 
@@ -103,12 +110,12 @@ fn replay_file<M: PagedMemory + Drop>(
     index: usize,
     image: &[u8],
 ) -> Result<Recorded<M>, JournalsFault>
-    ensures { IfOk result (IsHostAt files.now image.now index) }
+    requires { index < length files.now }
+    ensures done { IfOk result (IsHostAt files.now image.now index) }
+    ensures fault { IfErr result (IsJournalsFault files.now image.now) }
 {
     let header = header_number(files, index)?;
-    let Some(file) = files.get(index) else {
-        return Err(JournalsFault::NoGuest);
-    };
+    let file = &files[index];
     match replay_bytes(alloc, &header, &file.bytes, image) {
         Ok(recorded) => Ok(recorded),
         Err(FileFault::Journal(JournalFault::OutOfMemory)) => Err(JournalsFault::OutOfMemory),

@@ -11,7 +11,7 @@
 //! To be read in this order: `fault`, `address`, `outbound`, `timed`, `door`, `process`, `meeting`, `peer`, `accepter`,
 //! `ticker`, `operators`, `answers`, `control`, `threads`, `turns`, `hosting`, `host_command`, `tell_command`;
 //! `journal_file`, `journal_hosts`, `console_of_journal`, `replay_command`; `journal_headers`, `journal_world`,
-//! `journal_counts`, `journal_summary`, `journal_audit`; `laws`, which calls no code.
+//! `journal_cuts`, `journal_counts`, `journal_summary`, `journal_audit`; `laws`, which calls no code.
 #![tactic(auto)]
 
 mod accepter;
@@ -25,6 +25,7 @@ pub mod host_command;
 pub mod hosting;
 pub mod journal_audit;
 mod journal_counts;
+mod journal_cuts;
 pub mod journal_file;
 mod journal_headers;
 mod journal_hosts;
