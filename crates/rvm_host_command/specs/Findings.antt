@@ -1,5 +1,5 @@
 -- What an audit of journals in files found, and the status that says so.
-use Rattle.std.specs.Prelude.{◌≡◌, ◌⊎◌, ⊥, ℕ, zero, suc, ◌&&◌, not, Bool, false, List, [], ◌∷◌, ◌++◌, length, map, Option, None, Some}
+use Rattle.std.specs.Prelude.{◌≡◌, ◌⊎◌, ⊤, ⊥, ℕ, zero, suc, ◌&&◌, not, Bool, false, List, [], ◌∷◌, ◌++◌, length, map, Option, None, Some}
 use Rattle.std.specs.List.{list_any}
 use Rattle.rvm_audit.specs.Cuts.{AreContradicted, AreExplained}
 use Rattle.rvm_audit.specs.Orders.{IsDeadEnd, IsOrder, cut}
@@ -18,6 +18,7 @@ use Rattle.rvm_host_command.specs.declared.journal_audit.Finding.{Finding}
 use Rattle.rvm_host_command.specs.declared.journal_audit.Finding.TheVariants.{Contradicted, InOrder, Undecided}
 use Rattle.rvm_host_command.specs.declared.journal_file.JournalFile.{JournalFile}
 use Rattle.rvm_host_command.specs.declared.journal_file.JournalsFault.{JournalsFault}
+use Rattle.rvm_host_command.specs.declared.journal_file.JournalsFault.TheVariants as journals
 use Rattle.rvm_host_command.specs.declared.journal_headers.Wanted.TheVariants.{OfHost}
 
 -- whether a journal is that of a host, and was cut off
@@ -91,10 +92,16 @@ pub record AreNotInOrder (files : List JournalFile) (image : List ℕ) (out out'
   pub replayed : AreReplayed files image all
   pub found : IsRefusedFinding files all out out' errors errors'
 
+-- if memory ran out, that was reported
+abbrev pub IsMemoryTold : JournalsFault → (errors errors' : Option (List ℕ)) → Type 0
+IsMemoryTold journals.OutOfMemory errors errors' = IsTold (refused OutOfMemory) errors errors'
+IsMemoryTold fault errors errors' = ⊤
+
 -- the journals are not audited for this reason
-pub record AreNotAudited (files : List JournalFile) (image : List ℕ) (out out' : Option (List ℕ)) : Type 0 where
+pub record AreNotAudited (files : List JournalFile) (image : List ℕ) (out out' errors errors' : Option (List ℕ)) : Type 0 where
   pub fault : JournalsFault
   pub reason : IsJournalsFault files image fault
+  pub told : IsMemoryTold fault errors errors'
   pub same : out' ≡ out
 
 -- the hosts of a world did what their journals tell; that has no order, and what was cut off may explain it
@@ -110,7 +117,7 @@ abbrev pub HasAuditStatus : (status : ℕ) → List JournalFile → (image : Lis
 HasAuditStatus zero files image text out out' errors errors' =
     AreAudited files image text out out' × (errors' ≡ errors)
 HasAuditStatus (suc zero) files image text out out' errors errors' =
-    AreNotAudited files image out out' ⊎ AreNotInOrder files image out out' errors errors'
+    AreNotAudited files image out out' errors errors' ⊎ AreNotInOrder files image out out' errors errors'
 HasAuditStatus (suc (suc (suc zero))) files image text out out' errors errors' = AreOpen files image out out'
 HasAuditStatus status files image text out out' errors errors' = ⊥
 

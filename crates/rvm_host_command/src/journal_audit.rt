@@ -8,7 +8,7 @@ ghost use Rattle.rvm_command.specs.Refusals.{IsTold, refused};
 ghost use Rattle.rvm_refusal.specs.declared.refusal.Refusal.TheVariants as refusal;
 ghost use Rattle.rvm_audit.specs.Rule.{IsMerge};
 ghost use Rattle.rvm_host_command.specs.Audited.{IsWritten, journals_in};
-ghost use Rattle.rvm_host_command.specs.Findings.{HasAuditStatus, HasFindingStatus, IsFinding, IsUntoldAudit, IsUntoldFinding};
+ghost use Rattle.rvm_host_command.specs.Findings.{HasAuditStatus, HasFindingStatus, IsFinding, IsMemoryTold, IsUntoldAudit, IsUntoldFinding};
 ghost use Rattle.rvm_host_command.specs.declared.journal_file.JournalFile.{JournalFile};
 
 use crate::answers::letter_of;
@@ -171,18 +171,10 @@ fn write_audit<M: PagedMemory + Drop, O: Write + Drop, E: Write>(
     match write_flushed(all, order, text, output) {
         Ok(()) => Ok(0),
         Err(_) => {
-            tell_write(errors)?;
+            tell_refusal(Refusal::LinkFault, errors)?;
             Ok(1)
         }
     }
-}
-
-/// Reports that a write failed.
-fn tell_write<E: Write>(errors: &mut E) -> Result<(), LinkFault>
-    ensures { OnOk result (IsTold (refused refusal.LinkFault) (E.contents errors.old) (E.contents errors.new)) }
-{
-    let _status = tell(Refused::from(LinkFault), errors)?;
-    Ok(())
 }
 
 /// Writes what is asked for of an order that was found, and flushes it.
@@ -220,7 +212,9 @@ fn tell_fault<E: Write>(
     files: &[JournalFile<'_>],
     fault: JournalsFault,
     errors: &mut E,
-) -> Result<(), LinkFault> {
+) -> Result<(), LinkFault>
+    ensures { OnOk result (IsMemoryTold fault (E.contents errors.old) (E.contents errors.new)) }
+{
     match fault {
         JournalsFault::OutOfMemory => tell_refusal(Refusal::OutOfMemory, errors)?,
         JournalsFault::NoGuest => writeln!(errors, "no journal begins with a guest")?,
@@ -233,7 +227,9 @@ fn tell_fault<E: Write>(
 }
 
 /// Reports a refusal.
-fn tell_refusal<E: Write>(refusal: Refusal, errors: &mut E) -> Result<(), LinkFault> {
+fn tell_refusal<E: Write>(refusal: Refusal, errors: &mut E) -> Result<(), LinkFault>
+    ensures { OnOk result (IsTold (refused refusal) (E.contents errors.old) (E.contents errors.new)) }
+{
     let _status = tell(Refused::from(refusal), errors)?;
     Ok(())
 }

@@ -1,15 +1,18 @@
 -- Journals that are read from files and audited.
 use Rattle.std.proofs.Common.{◌≡◌, ◌⊎◌, ◌<◌, ◌+◌, ℕ, zero, suc, List, [], ◌∷◌, ◌++◌, Option, Some, Result, Ok, Err, inl, inr, sym, subst, take, length, arith}
+use Rattle.std.specs.Io.KnownBytes.{Appends}
 use Rattle.std.specs.Prelude.{OnErr, get_or, slice_get}
 use Rattle.std.specs.Result.{IfOk}
 use Rattle.std.specs.Borrow.{Bor}
 use Rattle.std.proofs.lemmas.Option.{none-some, same_Some, slice_get-get_or}
 use Rattle.rvm_arguments.specs.declared.arguments.AuditJournalsArguments.{AuditJournalsArguments}
-use Rattle.rvm_host_command.specs.Audited.{AreAudited}
+use Rattle.rvm_host_command.specs.Findings.{HasAuditStatus}
 use Rattle.rvm_host_command.specs.declared.journal_audit.AuditText.{AuditText}
 use Rattle.rvm_host_command.specs.declared.journal_file.JournalFile.{JournalFile}
-use Rattle.rvm_program.specs.Ended.{AreAuditedTo, AreJournals, IsOneMore, JournalsEnded, ToTell, text_of}
-use Rattle.rvm_program.specs.Files.{IsFile, Named}
+use Rattle.rvm_program.specs.Ended.{AreAuditedTo, AreJournals, IsNotBegun, IsOneMore, JournalsEnded, ToTell, Written, text_of, written}
+use Rattle.rvm_program.specs.Files.{IsFile, IsFileRefusal, IsLong, Named, file_text}
+use Rattle.rvm_refusal.specs.declared.refusal.Refusal.{Refusal}
+use Rattle.rvm_refusal.specs.declared.refusal.Refusal.TheVariants.{TooLong}
 
 after_one : (files : Named) (names : List (Bor (List ℕ))) (i : ℕ) (js : List JournalFile) (n : Bor (List ℕ)) (j : JournalFile)
     → AreJournals files (take i names) js → slice_get names i ≡ Some n → IsFile (files n.now) j.bytes.items
@@ -31,40 +34,56 @@ one_more files names i js after d are below more =
     (subst (λ it. AreJournals files (take (suc i) names) it) (sym more.last)
     (after_one files names i js (get_or names i d) more.journal are (slice_get-get_or names i d below) more.is_file))
 
--- `audit-journals` found an order, or something was refused or failed, or there is none
-pub journals_ended : {F : Type 0} (files : Named) (a : AuditJournalsArguments) (journals : List JournalFile) (image : List ℕ)
-    (before : Option (List ℕ)) (r : Result ℕ F) → AreJournals files a.journals.items journals → IsFile (files a.image.now) image
-    → IfOk r (λ status. (status ≡ 0) ⊎ (status ≡ 1))
-    → IfOk r (λ status. status ≡ 0 → AreAuditedTo journals image (text_of a.order) before)
-    → IfOk r (λ status. JournalsEnded files a status before)
-journals_ended files a journals image before (Err fault) journals_are image_is status audited = tt
-journals_ended files a journals image before (Ok s) journals_are image_is status audited = elim status [
-  | inl none ↦ subst (λ n. JournalsEnded files a n before) (sym none) (record {
-    journals = journals;
-    image = image;
-    journals_are = journals_are;
-    image_is = image_is;
-    audited = audited none;
-  })
-  | inr one ↦ subst (λ n. JournalsEnded files a n before) (sym one) tt
-]
+-- `audit-journals` was given its files
+pub has_audited : {F : Type 0} (files : Named) (a : AuditJournalsArguments) (journals : List JournalFile) (image : List ℕ)
+    (output : Option (List ℕ)) (errors : Written) (r : Result ℕ F) → AreJournals files a.journals.items journals
+    → IsFile (files a.image.now) image
+    → IfOk r (λ status. AreAuditedTo status journals image (text_of a.order) output errors ⊎ ((status ≡ 1) × IsNotBegun files errors))
+    → IfOk r (λ status. JournalsEnded files a status output errors)
+has_audited files a journals image output errors (Err fault) journals_are image_is ended = tt
+has_audited files a journals image output errors (Ok s) journals_are image_is (inl audited) =
+    inl (record {
+      journals = journals; image = image; journals_are = journals_are; image_is = image_is; audited = audited;
+    })
+has_audited files a journals image output errors (Ok s) journals_are image_is (inr no) = inr no
 
--- where it is not told how an audit of journals ended, no order was found
-pub journals_untold : {F : Type 0} (files : Named) (a : AuditJournalsArguments) (before : Option (List ℕ)) (r : Result ℕ F)
-    → OnErr r (ToTell (λ status errors. JournalsEnded files a status before))
-journals_untold files a before (Ok status) = tt
-journals_untold files a before (Err fault) = (1, [], tt)
+-- the report of its end is not complete
+pub untold_audit : {F : Type 0} (files : Named) (a : AuditJournalsArguments) (journals : List JournalFile) (image : List ℕ)
+    (output : Option (List ℕ)) (r : Result ℕ F) → AreJournals files a.journals.items journals
+    → IsFile (files a.image.now) image
+    → OnErr r (ToTell (λ status errors. AreAuditedTo status journals image (text_of a.order) output errors
+    ⊎ ((status ≡ 1) × IsNotBegun files errors)))
+    → OnErr r (ToTell (λ status errors. JournalsEnded files a status output errors))
+untold_audit files a journals image output (Ok s) journals_are image_is untold = tt
+untold_audit files a journals image output (Err fault) journals_are image_is untold =
+    (untold.0, untold.1, has_audited_so untold.0 (written (Some []) (Some untold.1)) untold.2)
+  where
+    has_audited_so : (s : ℕ) (errors : Written)
+        → AreAuditedTo s journals image (text_of a.order) output errors ⊎ ((s ≡ 1) × IsNotBegun files errors)
+        → JournalsEnded files a s output errors
+    has_audited_so s errors (inl audited) =
+        inl (record {
+          journals = journals; image = image; journals_are = journals_are; image_is = image_is; audited = audited;
+        })
+    has_audited_so s errors (inr no) = inr no
+
+-- a file was refused, and that was reported, or was to be reported
+pub file_told : (files : Named) (name : List ℕ) (why : Refusal) (limit : ℕ) (errors : Written)
+    → IsFileRefusal why ⊎ IsLong (files name) limit TooLong why
+    → Appends errors.before errors.after (file_text name why) → IsNotBegun files errors
+file_told files name why limit errors reason told =
+    inl (record { name = name; why = why; limit = limit; reason = reason; told = told })
 
 -- what was asked for was written to a buffer that holds what the output does
 pub audited_to : {F : Type 0} (r : Result ℕ F) (files journals : List JournalFile) (bytes image : List ℕ) (text asked : AuditText)
-    (buffer before after : Option (List ℕ)) → files ≡ journals → bytes ≡ image → text ≡ asked → buffer ≡ before
-    → IfOk r (λ s. s ≡ 0 → AreAudited files bytes text buffer after)
-    → IfOk r (λ s. s ≡ 0 → AreAuditedTo journals image asked before)
-audited_to (Ok s) files journals bytes image text asked buffer before after files_are image_is text_is empty audited = λ is. (
+    (buffer before after : Option (List ℕ)) (errors : Written) → files ≡ journals → bytes ≡ image → text ≡ asked → buffer ≡ before
+    → IfOk r (λ s. HasAuditStatus s files bytes text buffer after errors.before errors.after)
+    → IfOk r (λ s. AreAuditedTo s journals image asked before errors)
+audited_to (Ok s) files journals bytes image text asked buffer before after errors files_are image_is text_is empty audited = (
   after,
-  subst (λ j. AreAudited j image asked before after) files_are
-      (subst (λ i. AreAudited files i asked before after) image_is
-      (subst (λ t. AreAudited files bytes t before after) text_is
-      (subst (λ b. AreAudited files bytes text b after) empty (audited is)))),
+  subst (λ j. HasAuditStatus s j image asked before after errors.before errors.after) files_are
+      (subst (λ i. HasAuditStatus s files i asked before after errors.before errors.after) image_is
+      (subst (λ t. HasAuditStatus s files bytes t before after errors.before errors.after) text_is
+      (subst (λ b. HasAuditStatus s files bytes text b after errors.before errors.after) empty audited))),
 )
-audited_to (Err e) files journals bytes image text asked buffer before after files_are image_is text_is empty audited = tt
+audited_to (Err e) files journals bytes image text asked buffer before after errors files_are image_is text_is empty audited = tt

@@ -4,8 +4,9 @@ use Rattle.std.specs.Result.{IfErr, IfOk}
 use Rattle.std.specs.Prelude.{OnErr}
 use Rattle.rvm_arguments.specs.declared.arguments.Arguments.{Arguments}
 use Rattle.rvm_arguments.specs.declared.arguments.Arguments.TheVariants.{Run, Asm, Dis, Debug, Script, Move, Audit, Host, Tell, Replay, AuditJournals}
-use Rattle.rvm_program.specs.Ended.{HasEnded, HasRunTo, HostEnded, IsUnbegun, IsUntold, MoveHasStatus, TellEnded, Written}
-use Rattle.rvm_program.specs.Performed.{HasFailed, IsJudged, IsPassingOn, IsTelling, TellsMore}
+use Rattle.rvm_program.specs.Ended.{HasEnded, HasRunTo, HostEnded, IsUnbegun, IsUntold, JournalsEnded, MoveHasStatus, TellEnded, Written}
+use Rattle.rvm_program.specs.Performed.{HasFailed, IsJudged, IsPassingOn, MayBeOpen, TellsMore}
+use Rattle.rvm_arguments.specs.declared.arguments.AuditJournalsArguments.{AuditJournalsArguments}
 use Rattle.rvm_arguments.specs.declared.arguments.HostArguments.{HostArguments}
 use Rattle.rvm_arguments.specs.declared.arguments.MoveArguments.{MoveArguments}
 use Rattle.rvm_arguments.specs.declared.arguments.RunArguments.{RunArguments}
@@ -25,7 +26,7 @@ use Rattle.rvm_refusal.specs.declared.refusal.Refusal.{Refusal}
 -- what a command was asked for that has ended with this status, if it is more than 1
 pub record IsAskedFor (a : Arguments) (s : ℕ) : Type 0 where
   pub passing : s ≡ 2 → IsPassingOn a
-  pub lost : s ≡ 3 → IsTelling a ⊎ IsJudged a
+  pub lost : s ≡ 3 → MayBeOpen a ⊎ IsJudged a
   pub judged : 3 < s → IsJudged a
 
 -- a status of 0 or 1 may be that of each
@@ -110,6 +111,18 @@ told a s (inr (inr three)) = record {
   judged = λ above. absurd (omega (arith, three, above));
 }
 
+-- an audit of journals has one of three statuses
+audited : (files : Named) (a : AuditJournalsArguments) (n : ℕ) (output : Option (List ℕ)) (errors : Written)
+    → JournalsEnded files a (suc (suc n)) output errors → IsAskedFor (AuditJournals a) (suc (suc n))
+audited files a zero output errors (inl has) = absurd has.audited.1
+audited files a (suc zero) output errors (inl has) = record {
+  passing = λ two. (let it : 3 ≡ 2 = two in absurd (omega (arith, it)));
+  lost = λ three. inl tt;
+  judged = λ above. (let it : 3 < 3 = above in absurd (omega (arith, it)));
+}
+audited files a (suc (suc n)) output errors (inl has) = absurd has.audited.1
+audited files a n output errors (inr no) = let it : suc (suc n) ≡ 1 = no.0 in absurd (omega (arith, it))
+
 -- a command that ended with more than 1 was asked for such a status
 more : (files created : Named) (a : Arguments) (n : ℕ) (script : Option (List ℕ)) (output errors : Written)
     → HasEnded files created a (suc (suc n)) script output errors → IsAskedFor a (suc (suc n))
@@ -125,7 +138,7 @@ more files created (Audit a) n script output errors e = absurd e.ended
 more files created (Host a) n script output errors e = hosted files a n output e
 more files created (Tell a) n script output errors e = told a (suc (suc n)) e
 more files created (Replay a) n script output errors e = absurd e
-more files created (AuditJournals a) n script output errors e = absurd e
+more files created (AuditJournals a) n script output errors e = audited files a n output.before errors e
 
 -- a command that has ended was asked for its status
 ended : (files created : Named) (a : Arguments) (s : ℕ) (script : Option (List ℕ)) (output errors : Written)

@@ -1,5 +1,6 @@
 -- How a command ended, given the files that it names.
 use Rattle.std.specs.Borrow.{Bor}
+use Rattle.std.specs.Io.KnownBytes.{Appends}
 use Rattle.std.specs.Prelude.{◌≡◌, ◌⊎◌, ⊤, ℕ, zero, suc, Bool, true, false, List, [], ◌∷◌, ◌++◌, Option, None, Some, Result, option_map}
 use Rattle.rvm_arguments.specs.declared.arguments.Arguments.{Arguments}
 use Rattle.rvm_arguments.specs.declared.arguments.Arguments.TheVariants.{Run, Asm, Dis, Debug, Script, Move, Audit, Host, Tell, Replay, AuditJournals}
@@ -21,13 +22,13 @@ use Rattle.rvm_command.specs.Ends.{HasStatus, IsAsmEnd, IsDebugEnd, IsListEnd, I
 use Rattle.rvm_command.specs.Refusals.{IsTold, refused}
 use Rattle.rvm_host_command.specs.Consoles.{IsShownAgain}
 use Rattle.rvm_host_command.specs.Hosted.{IsHostedTo}
-use Rattle.rvm_host_command.specs.Audited.{AreAudited}
+use Rattle.rvm_host_command.specs.Findings.{HasAuditStatus}
 use Rattle.rvm_host_command.specs.declared.journal_audit.AuditText.{AuditText}
 use Rattle.rvm_host_command.specs.declared.journal_audit.AuditText.TheVariants.{Order, Summary}
 use Rattle.rvm_host_command.specs.declared.journal_file.JournalFile.{JournalFile}
 use Rattle.rvm_move.specs.Ended.{IsMoved, IsNotMoved}
 use Rattle.rvm_move.specs.Orders.{IsAudited, IsNotAudited}
-use Rattle.rvm_program.specs.Files.{IsApart, IsCreated, IsFile, IsImage, IsInput, IsOpened, IsUnread, Named}
+use Rattle.rvm_program.specs.Files.{IsApart, IsCreated, IsFile, IsFileRefusal, IsImage, IsInput, IsOpened, IsRefusedFile, IsUnread, Named, file_text}
 use Rattle.rvm_refusal.specs.declared.refusal.Refusal.{Refusal}
 use Rattle.rvm_command.specs.ScriptEnds.{IsScriptEnd}
 
@@ -155,6 +156,21 @@ HostEnded files a (suc (suc (suc (suc n)))) output = ⊥
 abbrev pub TellEnded : (status : ℕ) → Type 0
 TellEnded status = (status ≡ 0) ⊎ ((status ≡ 1) ⊎ (status ≡ 3))
 
+-- a file was refused, and that was reported with its name
+pub record IsFileTold (files : Named) (errors : Written) : Type 0 where
+  pub name : List ℕ
+  pub why : Refusal
+  pub reason : IsRefusedFile (files name) why
+  pub told : Appends errors.before errors.after (file_text name why)
+
+-- there was no memory for a buffer, and that was reported
+abbrev pub IsBufferTold : (errors : Written) → Type 0
+IsBufferTold errors = (why : Refusal) × IsFileRefusal why × IsTold (refused why) errors.before errors.after
+
+-- a command did not begin: one of its files was refused, or memory ran out; and that was reported
+abbrev pub IsNotBegun : (files : Named) → (errors : Written) → Type 0
+IsNotBegun files errors = IsFileTold files errors ⊎ IsBufferTold errors
+
 -- the bytes of a file, if it is named
 abbrev pub IsFileOrNone : (files : Named) → (name : Option (Bor (List ℕ))) → (bytes : List ℕ) → Type 0
 IsFileOrNone files None bytes = bytes ≡ []
@@ -192,23 +208,32 @@ abbrev pub text_of : (order : Bool) → AuditText
 text_of true = Order
 text_of false = Summary
 
--- journals were audited, and what was asked for was written after these bytes
-abbrev pub AreAuditedTo : List JournalFile → (image : List ℕ) → AuditText → (before : Option (List ℕ)) → Type 0
-AreAuditedTo journals image text before = (after : Option (List ℕ)) × AreAudited journals image text before after
+-- journals were audited, and the audit wrote after these bytes
+abbrev pub AreAuditedTo : (status : ℕ) → List JournalFile → (image : List ℕ) → AuditText → (before : Option (List ℕ))
+    → (errors : Written) → Type 0
+AreAuditedTo status journals image text before errors =
+    (after : Option (List ℕ)) × HasAuditStatus status journals image text before after errors.before errors.after
 
--- `audit-journals` was given the files that it names, which have an order, and wrote to a buffer in front of the output
-pub record HasAudited (files : Named) (a : AuditJournalsArguments) (output : Option (List ℕ)) : Type 0 where
+-- `audit-journals` was given the files that it names, and wrote to a buffer in front of the output
+pub record HasAudited (files : Named) (a : AuditJournalsArguments) (status : ℕ) (output : Option (List ℕ)) (errors : Written)
+    : Type 0 where
   pub journals : List JournalFile
   pub image : List ℕ
   pub journals_are : AreJournals files a.journals.items journals
   pub image_is : IsFile (files a.image.now) image
-  pub audited : AreAuditedTo journals image (text_of a.order) output
+  pub audited : AreAuditedTo status journals image (text_of a.order) output errors
 
--- by the status: the journals have an order; or something was refused or failed, or they have none
-abbrev pub JournalsEnded : (files : Named) → AuditJournalsArguments → (status : ℕ) → (output : Option (List ℕ)) → Type 0
-JournalsEnded files a zero output = HasAudited files a output
-JournalsEnded files a (suc zero) output = ⊤
-JournalsEnded files a (suc (suc n)) output = ⊥
+-- `audit-journals` was given its files, or did not begin
+abbrev pub JournalsEnded : (files : Named) → AuditJournalsArguments → (status : ℕ) → (output : Option (List ℕ))
+    → (errors : Written) → Type 0
+JournalsEnded files a status output errors =
+    HasAudited files a status output errors ⊎ ((status ≡ 1) × IsNotBegun files errors)
+
+-- what was read of the files was audited, or the audit did not begin
+abbrev pub IsAuditEnd : (status : ℕ) → (files : Named) → List JournalFile → (image : List ℕ) → AuditText
+    → (before : Option (List ℕ)) → (errors : Written) → Type 0
+IsAuditEnd status files journals image text before errors =
+    AreAuditedTo status journals image text before errors ⊎ ((status ≡ 1) × IsNotBegun files errors)
 
 -- what a command line asks for ended with this status
 abbrev pub HasEnded : (files created : Named) → Arguments → (status : ℕ) → (script : Option (List ℕ))
@@ -223,7 +248,7 @@ HasEnded files created (Audit a) status script output errors = AuditEnded files 
 HasEnded files created (Host a) status script output errors = HostEnded files a status output
 HasEnded files created (Tell a) status script output errors = TellEnded status
 HasEnded files created (Replay a) status script output errors = ReplayEnded files a status output
-HasEnded files created (AuditJournals a) status script output errors = JournalsEnded files a status output.before
+HasEnded files created (AuditJournals a) status script output errors = JournalsEnded files a status output.before errors
 
 -- a command did not begin, since a file could not be opened or read, memory ran out, or a file has more bytes than it
 -- may have; and that was reported

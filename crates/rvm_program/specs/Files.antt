@@ -1,11 +1,12 @@
 -- What is read of files.
-use Rattle.std.specs.Prelude.{◌≡◌, ◌⊎◌, ◌<◌, ◌*◌, ◌^◌, ℕ, Bool, if◌then◌else◌, true, false, List, [], Option, None, Some, IfSome, length, take}
+use Rattle.std.specs.Prelude.{◌≡◌, ◌⊎◌, ◌<◌, ◌*◌, ◌^◌, ℕ, Bool, if◌then◌else◌, true, false, List, [], ◌++◌, codes, Option, None, Some, IfSome, length, take}
 use Rattle.std.specs.Borrow.{Bor}
 use Rattle.rvm_arguments.specs.declared.arguments.Arguments.{Arguments}
 use Rattle.rvm_arguments.specs.declared.arguments.Arguments.TheVariants.{Run, Asm, Dis, Debug, Script, Move, Audit, Host, Tell, Replay, AuditJournals}
 use Rattle.rvm_arguments.specs.declared.arguments.GuestArguments.{GuestArguments}
 use Rattle.rvm_refusal.specs.declared.refusal.Refusal.{Refusal}
 use Rattle.rvm_refusal.specs.declared.refusal.Refusal.TheVariants as refusal
+use Rattle.rvm_refusal.specs.Refusal.{text_of}
 
 -- the bytes of the file with a name, if they are known
 abbrev pub Named : Type 0
@@ -49,9 +50,17 @@ abbrev pub IsFirstInput : Named → (name : Option (Bor (List ℕ))) → (count 
 IsFirstInput files None count bytes = bytes ≡ []
 IsFirstInput files (Some name) count bytes = IsFirst (files name.now) count bytes
 
+-- the report that a file was refused: its name and the refusal, in one line
+abbrev pub file_text : (name : List ℕ) → Refusal → List ℕ
+file_text name why = name ++ codes ": " ++ text_of why ++ codes "\n"
+
 -- a file is refused so, since it has more bytes than this, if they are known
 abbrev pub IsLong : (known : Option (List ℕ)) → (limit : ℕ) → (why r : Refusal) → Type 0
 IsLong known limit why r = (r ≡ why) × IfSome known (λ all. limit < length all)
+
+-- a file is refused so: it cannot be opened or read, memory ran out, or it has more bytes than it may have
+abbrev pub IsRefusedFile : (known : Option (List ℕ)) → Refusal → Type 0
+IsRefusedFile known r = IsFileRefusal r ⊎ ((limit : ℕ) × IsLong known limit refusal.TooLong r)
 
 -- the most bytes of a file that is read whole
 abbrev pub max_size : ℕ

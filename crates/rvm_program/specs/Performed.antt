@@ -6,7 +6,7 @@ use Rattle.clap.specs.Simple.{subcommand_of}
 use Rattle.clap.specs.Walk.{Text}
 use Rattle.clap.specs.declared.error.kind.ErrorKind.TheVariants as kind
 use Rattle.rvm_arguments.specs.declared.arguments.Arguments.{Arguments}
-use Rattle.rvm_arguments.specs.declared.arguments.Arguments.TheVariants.{Host, Move, Run, Tell}
+use Rattle.rvm_arguments.specs.declared.arguments.Arguments.TheVariants.{AuditJournals, Host, Move, Run, Tell}
 use Rattle.rvm_arguments.specs.declared.arguments.CommandLine.{CommandLine}
 use Rattle.rvm_arguments.specs.declared.arguments.StatusOf.{StatusOf}
 use Rattle.rvm_arguments.specs.declared.arguments.StatusOf.TheVariants.{Command, Verdict, Guest}
@@ -42,14 +42,16 @@ abbrev pub IsRefused : (files created : Named) → (words : List Text) → (scri
 IsRefused files created words script output errors =
     AskFor words (λ a. HasFailed files created a script output errors)
 
--- a host is told something
-abbrev pub IsTelling : Arguments → Type 0
-IsTelling (Tell a) = ⊤
-IsTelling other = ⊥
+-- a command may be left open, with the status 3: a host is told something, and an answer may be lost; or journals are
+-- audited, and what was cut off from them may decide
+abbrev pub MayBeOpen : Arguments → Type 0
+MayBeOpen (Tell a) = ⊤
+MayBeOpen (AuditJournals a) = ⊤
+MayBeOpen other = ⊥
 
--- words ask for a host to be told something
-abbrev pub AreTelling : (words : List Text) → Type 0
-AreTelling words = AskFor words (λ a. IsTelling a)
+-- words ask for such a command
+abbrev pub AskForOpen : (words : List Text) → Type 0
+AskForOpen words = AskFor words (λ a. MayBeOpen a)
 
 -- a status tells more than that a run ended
 abbrev pub TellsMore : StatusOf → Type 0

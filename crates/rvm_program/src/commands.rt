@@ -8,11 +8,12 @@ ghost use Rattle.either.specs.Either.{either};
 ghost use Rattle.rvm_arguments.specs.declared.arguments.Arguments.TheVariants as asks;
 ghost use Rattle.rvm_refusal.specs.declared.refusal.Refusal.TheVariants as refusal;
 ghost use Rattle.std.specs.Io.Buffered.{writer_contents};
+ghost use Rattle.std.specs.Io.KnownBytes.{Appends};
 ghost use Rattle.rvm_command.specs.declared.refused.Refused.{Refused};
 ghost use Rattle.rvm_command.specs.declared.run.Ended.{Ended};
 ghost use Rattle.rvm_command.specs.Ends.{RunHasStatus};
 ghost use Rattle.rvm_program.specs.Ended.{AsmEnded, AuditEnded, DebugEnded, DisEnded, HasRunTo, HostEnded, IsNamedFile, MoveEnded, RunEnded, ScriptEnded, TellEnded, ToTell, report_name, trace_name, written};
-ghost use Rattle.rvm_program.specs.Files.{IsFile, IsFileRefusal, IsFirst, IsFirstInput, IsImage, IsLong, IsLongInput, IsUnread, max_size};
+ghost use Rattle.rvm_program.specs.Files.{IsFile, IsFileRefusal, IsFirst, IsFirstInput, IsImage, IsLong, IsLongInput, IsRefusedFile, IsUnread, file_text, max_size};
 
 use crate::files::{MAX_FILE_SIZE, NamedFiles, keep_apart, read_beginning, read_whole, refusal_of};
 use crate::images::{begin_image, check_image, read_image};
@@ -363,10 +364,7 @@ where
                 errors,
             )
         }
-        Err((path, why)) => {
-            writeln!(errors, "{path}: {why}")?;
-            Ok(1)
-        }
+        Err((path, why)) => tell_file(path, why, errors),
     }
 }
 
@@ -461,12 +459,22 @@ pub(crate) fn read_told<'a, F: NamedFiles>(
     alloc: Global,
     path: &'a str,
 ) -> Result<Vec<u8>, (&'a str, Refusal)>
-    ensures { IfOk result (λ v. IsFile (F.bytes_of files.now path.now) v.items) }
+    ensures bytes { IfOk result (λ v. IsFile (F.bytes_of files.now path.now) v.items) }
+    ensures refused { IfErr result (λ e. IsRefusedFile (F.bytes_of files.now e.0.now) e.1) }
 {
     match read_whole(files, alloc, path) {
         Ok(bytes) => Ok(bytes),
         Err(why) => Err((path, why)),
     }
+}
+
+/// Reports that a file with this name was refused, in one line. Returns the status 1.
+pub(crate) fn tell_file<E: Write>(path: &str, why: Refusal, errors: &mut E) -> Told
+    ensures { IfOk result (λ status. (status ≡ 1)
+        × Appends (E.contents errors.old) (E.contents errors.new) (file_text path.now why)) }
+{
+    writeln!(errors, "{path}: {why}")?;
+    Ok(1)
 }
 
 /// All bytes of the file of an image. Fails with its name and the refusal.

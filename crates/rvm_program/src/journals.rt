@@ -1,11 +1,11 @@
 //! The commands over journals of hosts. Each reads the files that the command line names, in their order there but the
 //! image first, and calls the command over values. If a file is refused, each writes its name and the refusal.
 
-ghost use Rattle.std.specs.Prelude.{◌≡◌, ◌⊎◌, [], ◌∷◌, ◌++◌, IfOk, OnOk};
-ghost use Rattle.rvm_program.specs.Ended.{AreAuditedTo, AreJournals, IsFileOrNone, IsOneMore, JournalsEnded, ReplayEnded, text_of, written};
-ghost use Rattle.rvm_program.specs.Files.{IsFile};
+ghost use Rattle.std.specs.Prelude.{◌≡◌, [], ◌∷◌, ◌++◌, IfErr, IfOk, OnErr, OnOk};
+ghost use Rattle.rvm_program.specs.Ended.{AreJournals, IsAuditEnd, IsFileOrNone, IsOneMore, JournalsEnded, ReplayEnded, ToTell, text_of, written};
+ghost use Rattle.rvm_program.specs.Files.{IsFile, IsRefusedFile, Named};
 
-use crate::commands::{Told, buffered, read_told};
+use crate::commands::{Told, buffered, read_told, tell_file};
 use crate::files::{MAX_JOURNAL_SIZE, NamedFiles, read_file};
 use rvm_arguments::{AuditJournalsArguments, ReplayArguments};
 use rvm_command::refused::{Refused, tell};
@@ -85,7 +85,6 @@ fn read_named<'a, F: NamedFiles>(
 
 /// Reads the journals of the hosts of a world and the image of its guest, and audits the journals. If a file is refused,
 /// writes its name and the refusal to `errors`, and returns the status 1.
-#[tactic(auto, using(crate::proofs::AuditedFiles::journals_ended))]
 pub(crate) fn audit_journals<M: PagedMemory + Drop, F: NamedFiles, O: Write, E: Write>(
     alloc: Global,
     files: &F,
@@ -93,14 +92,14 @@ pub(crate) fn audit_journals<M: PagedMemory + Drop, F: NamedFiles, O: Write, E: 
     output: &mut O,
     errors: &mut E,
 ) -> Told
-    ensures { IfOk result (λ status. JournalsEnded (F.bytes_of files.now) arguments.now status (O.contents output.old)) }
+    ensures ended { IfOk result (λ status. JournalsEnded (F.bytes_of files.now) arguments.now status
+        (O.contents output.old) (written (E.contents errors.old) (E.contents errors.new))) }
+    ensures untold { OnErr result (ToTell (λ status errors. JournalsEnded (F.bytes_of files.now) arguments.now status
+        (O.contents output.old) errors)) }
 {
     match read_audited(alloc, files, arguments) {
         Ok(read) => audit_read::<M, O, E>(alloc, &read, arguments.order, output, errors),
-        Err((path, why)) => {
-            writeln!(errors, "{path}: {why}")?;
-            Ok(1)
-        }
+        Err((path, why)) => tell_file(path, why, errors),
     }
 }
 
@@ -119,6 +118,7 @@ fn read_audited<'a, F: NamedFiles>(
 ) -> Result<AuditFiles<'a>, (&'a str, Refusal)>
     ensures journals { IfOk result (λ r. AreJournals (F.bytes_of files.now) arguments.now.journals.items r.journals.items) }
     ensures image { IfOk result (λ r. IsFile (F.bytes_of files.now arguments.now.image.now) r.image.items) }
+    ensures refused { IfErr result (λ e. IsRefusedFile (F.bytes_of files.now e.0.now) e.1) }
 {
     let image = read_told(files, alloc, arguments.image)?;
     Ok(AuditFiles {
@@ -133,7 +133,8 @@ fn read_journals<'a, F: NamedFiles>(
     files: &F,
     names: &[&'a str],
 ) -> Result<Vec<JournalFile<'a>>, (&'a str, Refusal)>
-    ensures { IfOk result (λ read. AreJournals (F.bytes_of files.now) names.now read.items) }
+    ensures read { IfOk result (λ read. AreJournals (F.bytes_of files.now) names.now read.items) }
+    ensures refused { IfErr result (λ e. IsRefusedFile (F.bytes_of files.now e.0.now) e.1) }
 {
     let mut read = Vec::new(alloc);
     for index in 0..names.len() {
@@ -149,7 +150,8 @@ fn read_one<'a, F: NamedFiles>(
     name: &'a str,
     read: &mut Vec<JournalFile<'a>>,
 ) -> Result<(), (&'a str, Refusal)>
-    ensures { OnOk result (IsOneMore (F.bytes_of files.now name.now) read.old.items read.new.items) }
+    ensures more { OnOk result (IsOneMore (F.bytes_of files.now name.now) read.old.items read.new.items) }
+    ensures refused { IfErr result (λ e. IsRefusedFile (F.bytes_of files.now e.0.now) e.1) }
 {
     let bytes = read_told_journal(files, alloc, name)?;
     match keep(read, JournalFile { name, bytes }) {
@@ -173,9 +175,11 @@ fn audit_read<M: PagedMemory + Drop, O: Write, E: Write>(
     output: &mut O,
     errors: &mut E,
 ) -> Told
-    ensures status { IfOk result (λ status. (status ≡ 0) ⊎ (status ≡ 1)) }
-    ensures audited { IfOk result (λ status. status ≡ 0
-        → AreAuditedTo read.now.journals.items read.now.image.items (text_of order) (O.contents output.old)) }
+    ensures audited { (files : Named) → IfOk result (λ status. IsAuditEnd status files read.now.journals.items
+        read.now.image.items (text_of order) (O.contents output.old)
+        (written (E.contents errors.old) (E.contents errors.new))) }
+    ensures untold { (files : Named) → OnErr result (ToTell (λ status errors. IsAuditEnd status files
+        read.now.journals.items read.now.image.items (text_of order) (O.contents output.old) errors)) }
 {
     match buffered(alloc, output) {
         Ok(mut output) => {
@@ -210,7 +214,8 @@ fn read_told_journal<'a, F: NamedFiles>(
     alloc: Global,
     path: &'a str,
 ) -> Result<Vec<u8>, (&'a str, Refusal)>
-    ensures { IfOk result (λ v. IsFile (F.bytes_of files.now path.now) v.items) }
+    ensures bytes { IfOk result (λ v. IsFile (F.bytes_of files.now path.now) v.items) }
+    ensures refused { IfErr result (λ e. IsRefusedFile (F.bytes_of files.now e.0.now) e.1) }
 {
     match read_file(files, alloc, path, MAX_JOURNAL_SIZE, Refusal::TooLong) {
         Ok(bytes) => Ok(bytes),

@@ -14,7 +14,7 @@ ghost use Rattle.clap.specs.Words.{kind_of};
 ghost use Rattle.clap.specs.declared.error.kind.ErrorKind.TheVariants as kind;
 ghost use Rattle.rvm_program.specs.Ended.{HasEnded, HostEnded, IsUnbegun, IsUntold, ToTell, written};
 ghost use Rattle.rvm_program.specs.Files.{IsUnread};
-ghost use Rattle.rvm_program.specs.Performed.{AreFaulty, AreJudged, ArePassingOn, AreTelling, HasEndedEither, HasEndedSo, HasFailed, HasFailedEither, HasFailedSo, IsEndedSo, IsJudged, IsPassingOn, IsRefusedSo, IsShown, IsTelling};
+ghost use Rattle.rvm_program.specs.Performed.{AreFaulty, AreJudged, ArePassingOn, AskForOpen, HasEndedEither, HasEndedSo, HasFailed, HasFailedEither, HasFailedSo, IsEndedSo, IsJudged, IsPassingOn, IsRefusedSo, IsShown, MayBeOpen};
 
 mod commands;
 mod defect;
@@ -90,7 +90,7 @@ where
     Rt::Listener: Send + Sync,
     Rt::File: Send,
     ensures status { 3 < result → AreJudged (map S.text words.now) }
-    ensures lost { result ≡ 3 → AreTelling (map S.text words.now) ⊎ AreJudged (map S.text words.now) }
+    ensures lost { result ≡ 3 → AskForOpen (map S.text words.now) ⊎ AreJudged (map S.text words.now) }
     ensures fault { result ≡ 2 → (O.contents output.new ≡ O.contents output.old) ⊎ (ArePassingOn (map S.text words.now)
         × IsEndedSo (λ name. None) (λ name. None) (map S.text words.now) 2 (I.remaining input.old)
         (written (O.contents output.old) (O.contents output.new))
@@ -132,7 +132,7 @@ where
     Rt::Listener: Send + Sync,
     Rt::File: Send,
     ensures status { 3 < result → AreJudged (map S.text words.now) }
-    ensures lost { result ≡ 3 → AreTelling (map S.text words.now) ⊎ AreJudged (map S.text words.now) }
+    ensures lost { result ≡ 3 → AskForOpen (map S.text words.now) ⊎ AreJudged (map S.text words.now) }
     ensures fault { result ≡ 2 → (O.contents output.new ≡ O.contents output.old) ⊎ (ArePassingOn (map S.text words.now)
         × IsEndedSo (F.bytes_of files.now) (F.created_of files.now) (map S.text words.now) 2 (I.remaining input.old)
         (written (O.contents output.old) (O.contents output.new))
@@ -169,7 +169,7 @@ where
     Rt::Listener: Send + Sync,
     Rt::File: Send,
     ensures status { 3 < result → IsJudged line.now.arguments }
-    ensures lost { result ≡ 3 → IsTelling line.now.arguments ⊎ IsJudged line.now.arguments }
+    ensures lost { result ≡ 3 → MayBeOpen line.now.arguments ⊎ IsJudged line.now.arguments }
     ensures passed { result ≡ 2 → IsPassingOn line.now.arguments }
     ensures others { 1 < result → HasEndedSo (F.bytes_of files.now) (F.created_of files.now) line.now result (I.remaining input.old)
         (written (O.contents output.old) (O.contents output.new))
@@ -211,7 +211,7 @@ where
     Rt::Listener: Send + Sync,
     Rt::File: Send,
     ensures status { 3 < result → IsJudged arguments.now }
-    ensures lost { result ≡ 3 → IsTelling arguments.now ⊎ IsJudged arguments.now }
+    ensures lost { result ≡ 3 → MayBeOpen arguments.now ⊎ IsJudged arguments.now }
     ensures passed { result ≡ 2 → IsPassingOn arguments.now }
     ensures others { 1 < result → HasEndedEither (F.bytes_of files.now) (F.created_of files.now) arguments.now result
         (I.remaining input.old) (written (O.contents output.old) (O.contents output.new))
@@ -304,7 +304,7 @@ where
     Rt::Listener: Send + Sync,
     Rt::File: Send,
     ensures status { 3 < result → IsJudged arguments.now }
-    ensures lost { result ≡ 3 → IsTelling arguments.now ⊎ IsJudged arguments.now }
+    ensures lost { result ≡ 3 → MayBeOpen arguments.now ⊎ IsJudged arguments.now }
     ensures passed { result ≡ 2 → IsPassingOn arguments.now }
     ensures others { 1 < result → HasEnded (F.bytes_of files.now) (F.created_of files.now) arguments.now result (I.remaining input.old)
         (written (O.contents output.old) (O.contents output.new))
