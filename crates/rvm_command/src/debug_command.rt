@@ -82,9 +82,10 @@ fn debug<M: PagedMemory + Drop, R: Read, O: Write + Drop>(
     Ok(())
 }
 
-/// Answers an extended session, or else a script, and flushes the answers.
+/// Answers an extended session, or else a script, and flushes the answers. Fails as `run_session` and `run_script` do,
+/// and with `LinkFault` if the answers cannot be flushed.
 #[tactic(auto, using(crate::proofs::SessionsEnded::either_ended, crate::proofs::SessionsEnded::either_failed))]
-fn answer<M: Memory, R: Read, O: Write + Drop>(
+pub fn answer<M: Memory, R: Read, O: Write + Drop>(
     alloc: Global,
     guest: &mut Debugged<M>,
     extended: bool,
