@@ -31,6 +31,7 @@ use Rattle.rvm_command.specs.Assembled.{IsFileOf}
 use Rattle.rvm_command.specs.Command.{FileImage, end_text, guest_of, image_of, listing, run_of}
 use Rattle.rvm_command.specs.ExtendedRuns.{session_told}
 use Rattle.rvm_command.specs.Reports.{report_text}
+use Rattle.rvm_command.specs.SymbolLines.{refused_line}
 use Rattle.rvm_command.specs.Watched.{Watched}
 use Rattle.rvm_command.specs.Refusals.{IsTold, refused, refused_at, refused_of_text, refused_of_script}
 use Rattle.rvm_elf.specs.Refusals.{refusal_of_file, refusal_of_image}
@@ -65,20 +66,34 @@ IsReported (Some report) = Unit {0}
 abbrev pub Writes : Watched → Option TraceArguments → Option ReportArguments → Type 0
 Writes r trace report = (0 < length r.written) ⊎ (IsTraced trace ⊎ IsReported report)
 
+-- a file of symbols is refused at its first bad line
+abbrev pub IsSymbolRefusal : (symbols : List ℕ) → Refused → Type 0
+IsSymbolRefusal symbols r = (n : ℕ) × (refused_line symbols ≡ Some n) × (r ≡ refused_at n BadToken)
+
+-- a run is refused before its first turn: for its symbols or, if these are good, since its guest is not loaded
+abbrev pub IsRunRefusal : RunArguments → (file symbols : List ℕ) → Refused → Type 0
+IsRunRefusal a file symbols r =
+    IsSymbolRefusal symbols r
+    ⊎ ((refused_line symbols ≡ None) × IsLoadRefusal (image_of a.guest.raw file) a.guest.pages r)
+
+-- a run can begin: its symbols are good, and its image lies in RAM
+abbrev pub CanRun : RunArguments → (file symbols : List ℕ) → Type 0
+CanRun a file symbols = (refused_line symbols ≡ None) × IsLoadable (image_of a.guest.raw file) a.guest.pages
+
 -- a run has made its last turn, or was refused: before its first, or since a write failed, of its output, its trace or
 -- its report
-abbrev pub IsRunEnd : RunArguments → (file input : List ℕ) → Result Ended Refused
+abbrev pub IsRunEnd : RunArguments → (file input symbols : List ℕ) → Result Ended Refused
     → (before after trace_before trace_after report_before report_after : Option (List ℕ)) → Type 0
-IsRunEnd a file input (Ok ended) before after trace_before trace_after report_before report_after =
-    IsLoadable (image_of a.guest.raw file) a.guest.pages
+IsRunEnd a file input symbols (Ok ended) before after trace_before trace_after report_before report_after =
+    CanRun a file symbols
     × IfOk (image_of a.guest.raw file) (λ i.
     (ended ≡ (run_of a i input).ended) × Appends before after (run_of a i input).written
     × Appends trace_before trace_after (concat (run_of a i input).lines)
-    × Appends report_before report_after (report_text a.report i.1 (run_of a i input)))
-IsRunEnd a file input (Err r) before after trace_before trace_after report_before report_after =
-    (IsLoadRefusal (image_of a.guest.raw file) a.guest.pages r × (after ≡ before) × (trace_after ≡ trace_before)
+    × Appends report_before report_after (report_text a.report a.guest.pages i.1 symbols (run_of a i input)))
+IsRunEnd a file input symbols (Err r) before after trace_before trace_after report_before report_after =
+    (IsRunRefusal a file symbols r × (after ≡ before) × (trace_after ≡ trace_before)
     × (report_after ≡ report_before))
-    ⊎ ((r ≡ refused LinkFault) × IsLoadable (image_of a.guest.raw file) a.guest.pages
+    ⊎ ((r ≡ refused LinkFault) × CanRun a file symbols
     × IfOk (image_of a.guest.raw file) (λ i. Writes (run_of a i input) a.trace a.report))
 
 -- the lines of an image are written, or it was refused: for its file, or since a write failed

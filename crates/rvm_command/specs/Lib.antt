@@ -7,6 +7,9 @@ pub mod FaultTexts
 pub mod Trace
 pub mod Watched
 pub mod Coverage
+pub mod Symbols
+pub mod SymbolLines
+pub mod Profile
 pub mod Counting
 pub mod Reports
 pub mod Turns

@@ -1,11 +1,11 @@
 //! The coverage of a run: the lines that `rvmove dis` lists of its image, before each how often the instruction there
 //! ran.
 
-ghost use Rattle.std.specs.Prelude.{◌≡◌, ◌%◌, ◌+◌, ◌^◌, ◌++◌, [], codes, drop, length, replicate, true, IfOk, OnOk};
+ghost use Rattle.std.specs.Prelude.{◌≡◌, ◌≤◌, ◌%◌, ◌+◌, ◌^◌, ◌++◌, [], codes, drop, length, replicate, sum, true, IfOk, OnOk};
 ghost use Rattle.std.specs.Io.KnownBytes.{Appends};
 ghost use Rattle.rvm_asm.specs.Images.{pieces_of};
 ghost use Rattle.rvm_command.specs.Command.{before_word};
-ghost use Rattle.rvm_command.specs.Counting.{has_place, noted, number_at, place_of};
+ghost use Rattle.rvm_command.specs.Counting.{has_place, noted, number_at, place_of, places_before, places_until, sum_between};
 ghost use Rattle.rvm_command.specs.Coverage.{counted_line, counted_lines, counted_listing, has_run, in_ten};
 
 use byteorder::{ByteOrder, LittleEndian};
@@ -26,11 +26,13 @@ pub(crate) struct Counts {
 }
 
 impl Model for Counts {
-    ghost use Rattle.std.specs.Prelude.{List, ℕ};
+    ghost use Rattle.std.specs.Prelude.{◌≤◌, ◌^◌, List, ℕ, length};
 
     ghost Value = { List ℕ };
 
     ghost view = { λ c. c.words.items };
+
+    ghost invariant = { λ c. length c.words.items ≤ 2 ^ 32 };
 }
 
 impl Counts {
@@ -82,6 +84,51 @@ impl Counts {
         } else {
             0
         }
+    }
+
+    /// The sum of the numbers of the words from an address on, up to the end of their range, if it has one.
+    #[tactic(auto, unfolding(crate::specs::Counting::sum_between))]
+    pub(crate) fn sum_between(&self, from: u32, end: Option<u32>) -> u64
+        ensures { result ≡ sum_between self.now from end }
+    {
+        let words = &self.words;
+        let first = places_before(from, words.len());
+        let last = places_until(end, words.len());
+        if first < last {
+            sum(&words[first..last])
+        } else {
+            0
+        }
+    }
+}
+
+/// The sum of numbers.
+fn sum(numbers: &[u32]) -> u64
+    requires { length numbers.now ≤ 2 ^ 32 }
+    ensures { result ≡ sum numbers.now }
+{
+    let mut total = 0u64;
+    for number in numbers {
+        total += u64::from(*number);
+    }
+    total
+}
+
+/// How many of the first `count` words of RAM stand before an address.
+fn places_before(address: u32, count: usize) -> usize
+    ensures { result ≡ places_before address count }
+{
+    let bytes = address.saturating_sub(RAM_BASE) as usize;
+    ((bytes + 3) / 4).min(count)
+}
+
+/// How many of the first `count` words of RAM stand before the end of a range, if it has one.
+fn places_until(end: Option<u32>, count: usize) -> usize
+    ensures { result ≡ places_until end count }
+{
+    match end {
+        Some(address) => places_before(address, count),
+        None => count,
     }
 }
 
@@ -175,7 +222,7 @@ fn write_counted<O: Write>(
     ensures { OnOk result (Appends (O.contents output.old) (O.contents output.new)
         (counted_line count address word)) }
 {
-    write!(output, "{}  ", InTen(count))?;
+    write!(output, "{}  ", InTen(u64::from(count)))?;
     write_line(address, word, output)?;
     writeln!(output)?;
     Ok(())
@@ -183,7 +230,7 @@ fn write_counted<O: Write>(
 
 /// A number, shown in decimal in ten columns, with spaces before it.
 #[derive(Clone, Copy)]
-struct InTen(u32);
+pub(crate) struct InTen(pub(crate) u64);
 
 impl fmt::Display for InTen {
     ghost use Rattle.std.specs.Prelude.{Some};

@@ -1,7 +1,8 @@
 //! What is reported of a run once it has ended.
 //!
 //! A signature has a line for each word of a range of RAM, as the run left it: its eight hexadecimal digits, in lower case.
-//! A coverage has the lines that `rvmove dis` lists of the image, each after a number: how often that word ran.
+//! A coverage has the lines that `rvmove dis` lists of the image, each after a number: how often that word ran. A profile
+//! has a line for each symbol of a file: how many steps ran a word of it, and its name.
 
 ghost use Rattle.std.specs.Prelude.{◌≡◌, OnErr, OnOk};
 ghost use Rattle.std.specs.Io.KnownBytes.{Appends};
@@ -11,6 +12,7 @@ ghost use Rattle.rvm_command.specs.Counting.{written_report, written_text};
 ghost use Rattle.rvm_command.specs.Reports.{signature, word_row};
 
 use crate::coverage::{Counts, write_coverage};
+use crate::profile::write_profile;
 use crate::trace::word_at;
 use rvm_arguments::{Report, ReportArguments, WordRange};
 use rvm_asm::Segment;
@@ -34,16 +36,17 @@ pub(crate) struct Kept {
 pub(crate) fn write_report<M: Memory, W: Write>(
     guest: &mut Debugged<M>,
     asked: &Option<ReportArguments>,
+    symbols: &[u8],
     kept: &Kept,
     writer: &mut W,
 ) -> Result<(), LinkFault>
     ensures text { OnOk result (Appends (W.contents writer.old) (W.contents writer.new)
-        (written_text asked.now (pieces_of kept.now.segments.items) kept.now.counts guest.old.guest)) }
+        (written_text asked.now (pieces_of kept.now.segments.items) symbols.now kept.now.counts guest.old.guest)) }
     ensures guest { guest.new ≡ guest.old }
     ensures some { OnErr result (IsReported asked.now) }
 {
     match asked {
-        Some(asked) => write_flushed(guest, asked.report, kept, writer),
+        Some(asked) => write_flushed(guest, asked.report, symbols, kept, writer),
         None => Ok(()),
     }
 }
@@ -53,14 +56,15 @@ pub(crate) fn write_report<M: Memory, W: Write>(
 fn write_flushed<M: Memory, W: Write>(
     guest: &mut Debugged<M>,
     report: Report,
+    symbols: &[u8],
     kept: &Kept,
     writer: &mut W,
 ) -> Result<(), LinkFault>
     ensures text { OnOk result (Appends (W.contents writer.old) (W.contents writer.new)
-        (written_report report (pieces_of kept.now.segments.items) kept.now.counts guest.old.guest)) }
+        (written_report report (pieces_of kept.now.segments.items) symbols.now kept.now.counts guest.old.guest)) }
     ensures guest { guest.new ≡ guest.old }
 {
-    write_reported(guest, report, kept, writer)?;
+    write_reported(guest, report, symbols, kept, writer)?;
     Ok(writer.flush()?)
 }
 
@@ -68,16 +72,18 @@ fn write_flushed<M: Memory, W: Write>(
 fn write_reported<M: Memory, W: Write>(
     guest: &mut Debugged<M>,
     report: Report,
+    symbols: &[u8],
     kept: &Kept,
     writer: &mut W,
 ) -> Result<(), LinkFault>
     ensures text { OnOk result (Appends (W.contents writer.old) (W.contents writer.new)
-        (written_report report (pieces_of kept.now.segments.items) kept.now.counts guest.old.guest)) }
+        (written_report report (pieces_of kept.now.segments.items) symbols.now kept.now.counts guest.old.guest)) }
     ensures guest { guest.new ≡ guest.old }
 {
     match report {
         Report::Signature(range) => write_signature(guest, range, writer),
         Report::Coverage => write_coverage(&kept.segments, &kept.counts, writer),
+        Report::Profile { .. } => write_profile(symbols, &kept.counts, writer),
     }
 }
 

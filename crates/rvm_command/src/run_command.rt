@@ -1,15 +1,16 @@
 //! `rvmove run`: runs the guest of an image, and reports how that ended.
 
-ghost use Rattle.std.specs.Prelude.{◌≡◌, ◌⊎◌, ◌++◌, [], true, List, Result, OnErr, OnOk, IfErr, IfOk, codes, length};
+ghost use Rattle.std.specs.Prelude.{◌≡◌, ◌⊎◌, ◌++◌, [], true, List, None, Result, OnErr, OnOk, IfErr, IfOk, codes, length};
 ghost use Rattle.std.specs.Io.KnownBytes.{Appends, Keeps};
 ghost use Rattle.rvm_arguments.specs.declared.arguments.StatusOf.TheVariants as tells;
 ghost use Rattle.rvm_command.specs.declared.refused.Refused.{Refused};
 ghost use Rattle.rvm_command.specs.declared.run.Ended.{Ended};
 ghost use Rattle.rvm_command.specs.Command.{end_text, guest_of, image_of};
-ghost use Rattle.rvm_command.specs.Ends.{IsFileRefusal, IsLoadable, IsRunEnd, IsTraced, RunHasStatus, Writes, run_status};
+ghost use Rattle.rvm_command.specs.Ends.{CanRun, IsFileRefusal, IsLoadable, IsRunEnd, IsTraced, RunHasStatus, Writes, run_status};
 ghost use Rattle.rvm_asm.specs.Images.{Piece};
-ghost use Rattle.rvm_command.specs.Counting.{AreRuns, Covers, is_coverage, is_covered};
+ghost use Rattle.rvm_command.specs.Counting.{AreRuns, Covers, is_counted, wants_counts};
 ghost use Rattle.rvm_command.specs.Reports.{report_text};
+ghost use Rattle.rvm_command.specs.SymbolLines.{refused_line};
 ghost use Rattle.rvm_command.specs.Watched.{HasRun, run_with, traced_of};
 
 use crate::coverage::Counts;
@@ -18,6 +19,7 @@ use crate::guest::{image_of, load_guest};
 use crate::refused::{Refused, tell};
 use crate::report::{Kept, write_report};
 use crate::run::Ended;
+use crate::symbols::check_symbols;
 use crate::watched::run_asked;
 use rvm_arguments::{
     GuestArguments, Report, ReportArguments, RunArguments, StatusOf, TraceArguments,
@@ -51,11 +53,12 @@ pub struct RunFiles<T, R> {
 
 /// Runs the guest of the file `image`, whose console gets `input`. What the guest sends goes to `output`, the lines of
 /// the steps that `arguments.trace` asks for to `files.trace`, and after the last turn what `arguments.report` asks for
-/// to `files.report`.
+/// to `files.report`. `symbols` is the file of the symbols of a profile, and empty if no profile is asked for.
 ///
 /// Returns the status: what `arguments.status` asks for, or 1 if the run was refused. `errors` gets one line: how the
-/// run ended, or the refusal. The fault of the file, `OutsideRam` if the image does not lie in RAM, and `OutOfMemory`
-/// leave `output` and `files` unchanged; `LinkFault` says that a write to one of them failed, and a part of what the
+/// run ended, or the refusal. `BadToken` with the number of the first line of `symbols` that is refused, the fault of
+/// the file, `OutsideRam` if the image does not lie in RAM, and `OutOfMemory` leave `output` and `files` unchanged;
+/// `LinkFault` says that a write to one of them failed, and a part of what the
 /// guest sent, of the trace and of the report may have been written. No clause says when a writer fails. The error
 /// `LinkFault` says that a write to `errors` failed.
 pub fn run_command<M: PagedMemory + Drop, O: Write, T: Write, R: Write, E: Write>(
@@ -63,24 +66,26 @@ pub fn run_command<M: PagedMemory + Drop, O: Write, T: Write, R: Write, E: Write
     arguments: &RunArguments,
     image: &[u8],
     input: &[u8],
+    symbols: &[u8],
     output: &mut O,
     files: &mut RunFiles<T, R>,
     errors: &mut E,
 ) -> Result<u8, LinkFault>
     ensures status { IfOk result (λ status. RunHasStatus arguments.now.status status
-        (λ end. IsRunEnd arguments.now image.now input.now end (O.contents output.old) (O.contents output.new)
+        (λ end. IsRunEnd arguments.now image.now input.now symbols.now end
+        (O.contents output.old) (O.contents output.new)
         (T.contents files.old.trace) (T.contents files.new.trace)
         (R.contents files.old.report) (R.contents files.new.report))
         (E.contents errors.old) (E.contents errors.new)) }
     ensures output { (end : Result Ended Refused) × IsRunEnd arguments.now image.now input.now end
         (O.contents output.old) (O.contents output.new) (T.contents files.old.trace) (T.contents files.new.trace)
         (R.contents files.old.report) (R.contents files.new.report) }
-    ensures unloadable { IsLoadable (image_of arguments.now.guest.raw image.now) arguments.now.guest.pages
+    ensures unbegun { CanRun arguments.now image.now symbols.now
         ⊎ ((O.contents output.new ≡ O.contents output.old)
         × (T.contents files.new.trace ≡ T.contents files.old.trace)
         × (R.contents files.new.report ≡ R.contents files.old.report)) }
 {
-    match run_image::<M, O, T, R>(alloc, arguments, image, input, output, files) {
+    match run_image::<M, O, T, R>(alloc, arguments, image, input, symbols, output, files) {
         Ok(ended) => tell_run_end(ended, arguments.status, errors),
         Err(refused) => tell(refused, errors),
     }
@@ -149,25 +154,49 @@ fn guest_status(ended: Ended) -> u8
     }
 }
 
-/// Loads the guest and runs it. Returns how the run ended, or why it was refused.
+/// Checks the symbols, loads the guest and runs it. Returns how the run ended, or why it was refused.
 fn run_image<M: PagedMemory + Drop, O: Write, T: Write, R: Write>(
     alloc: Global,
     arguments: &RunArguments,
     image: &[u8],
     input: &[u8],
+    symbols: &[u8],
     output: &mut O,
     files: &mut RunFiles<T, R>,
 ) -> Result<Ended, Refused>
-    ensures end { IsRunEnd arguments.now image.now input.now result
+    ensures end { IsRunEnd arguments.now image.now input.now symbols.now result
         (O.contents output.old) (O.contents output.new) (T.contents files.old.trace) (T.contents files.new.trace)
         (R.contents files.old.report) (R.contents files.new.report) }
-    ensures unloadable { IsLoadable (image_of arguments.now.guest.raw image.now) arguments.now.guest.pages
+    ensures unbegun { CanRun arguments.now image.now symbols.now
+        ⊎ ((O.contents output.new ≡ O.contents output.old)
+        × (T.contents files.new.trace ≡ T.contents files.old.trace)
+        × (R.contents files.new.report ≡ R.contents files.old.report)) }
+{
+    check_symbols(symbols)?;
+    run_checked::<M, O, T, R>(alloc, arguments, image, input, symbols, output, files)
+}
+
+/// Loads the guest and runs it, by symbols that are good. Returns how the run ended, or why it was refused.
+fn run_checked<M: PagedMemory + Drop, O: Write, T: Write, R: Write>(
+    alloc: Global,
+    arguments: &RunArguments,
+    image: &[u8],
+    input: &[u8],
+    symbols: &[u8],
+    output: &mut O,
+    files: &mut RunFiles<T, R>,
+) -> Result<Ended, Refused>
+    requires { refused_line symbols.now ≡ None }
+    ensures end { IsRunEnd arguments.now image.now input.now symbols.now result
+        (O.contents output.old) (O.contents output.new) (T.contents files.old.trace) (T.contents files.new.trace)
+        (R.contents files.old.report) (R.contents files.new.report) }
+    ensures unbegun { CanRun arguments.now image.now symbols.now
         ⊎ ((O.contents output.new ≡ O.contents output.old)
         × (T.contents files.new.trace ≡ T.contents files.old.trace)
         × (R.contents files.new.report ≡ R.contents files.old.report)) }
 {
     let mut guest = load_guest::<M>(alloc, &arguments.guest, image)?;
-    run_loaded(alloc, &mut guest, arguments, image, input, output, files)
+    run_loaded(alloc, &mut guest, arguments, image, input, symbols, output, files)
 }
 
 /// Runs a guest that was loaded. Returns how the run ended, or why it was refused.
@@ -177,30 +206,32 @@ fn run_loaded<M: Memory, O: Write, T: Write, R: Write>(
     arguments: &RunArguments,
     image: &[u8],
     input: &[u8],
+    symbols: &[u8],
     output: &mut O,
     files: &mut RunFiles<T, R>,
 ) -> Result<Ended, Refused>
-    requires loadable { IsLoadable (image_of arguments.now.guest.raw image.now) arguments.now.guest.pages }
+    requires begun { CanRun arguments.now image.now symbols.now }
     requires guest { IfOk (image_of arguments.now.guest.raw image.now) (λ i.
         guest.old.guest ≡ guest_of arguments.now.guest.harts arguments.now.guest.pages i.0 i.1) }
-    ensures end { IsRunEnd arguments.now image.now input.now result
+    ensures end { IsRunEnd arguments.now image.now input.now symbols.now result
         (O.contents output.old) (O.contents output.new) (T.contents files.old.trace) (T.contents files.new.trace)
         (R.contents files.old.report) (R.contents files.new.report) }
 {
     let mut kept = keep(alloc, arguments, image)?;
-    Ok(run_to_report(guest, arguments, input, &mut kept, output, files)?)
+    Ok(run_to_report(guest, arguments, input, symbols, &mut kept, output, files)?)
 }
 
 /// What is kept of a run for the report that is asked for, before its first turn. Refuses with `OutOfMemory`.
 #[tactic(auto, using(crate::proofs::Covering::nothing_counted, crate::proofs::Covering::no_test))]
 fn keep(alloc: Global, arguments: &RunArguments, image: &[u8]) -> Result<Kept, Refused>
     requires { IsLoadable (image_of arguments.now.guest.raw image.now) arguments.now.guest.pages }
-    ensures kept { IfOk result (λ k. is_covered arguments.now.report ≡ true →
-        IfOk (image_of arguments.now.guest.raw image.now) (λ i. Covers k.counts k.segments.items i.1)) }
+    ensures kept { IfOk result (λ k. is_counted arguments.now.report ≡ true →
+        IfOk (image_of arguments.now.guest.raw image.now) (λ i.
+        Covers arguments.now.guest.pages k.counts k.segments.items i.1)) }
     ensures counts { IfOk result (λ k. AreRuns k.counts []) }
     ensures refused { IfErr result (IsFileRefusal (image_of arguments.now.guest.raw image.now)) }
 {
-    if !is_covered(&arguments.report) {
+    if !is_counted(&arguments.report) {
         return Ok(Kept {
             segments: Vec::new(alloc),
             counts: Counts::none(alloc),
@@ -213,7 +244,8 @@ fn keep(alloc: Global, arguments: &RunArguments, image: &[u8]) -> Result<Kept, R
 #[tactic(auto, using(crate::proofs::Covering::keeps, crate::proofs::Covering::none_ran))]
 fn keep_words(alloc: Global, guest: &GuestArguments, image: &[u8]) -> Result<Kept, Refused>
     requires { IsLoadable (image_of guest.now.raw image.now) guest.now.pages }
-    ensures kept { IfOk result (λ k. IfOk (image_of guest.now.raw image.now) (λ i. Covers k.counts k.segments.items i.1)) }
+    ensures kept { IfOk result (λ k. IfOk (image_of guest.now.raw image.now) (λ i.
+        Covers guest.now.pages k.counts k.segments.items i.1)) }
     ensures counts { IfOk result (λ k. AreRuns k.counts []) }
     ensures refused { IfErr result (IsFileRefusal (image_of guest.now.raw image.now)) }
 {
@@ -228,23 +260,23 @@ fn keep_words(alloc: Global, guest: &GuestArguments, image: &[u8]) -> Result<Kep
     }
 }
 
-/// Whether the coverage of a run is asked for.
-fn is_covered(asked: &Option<ReportArguments>) -> bool
-    ensures { result ≡ is_covered asked.now }
+/// Whether the report on a run wants to know how often words ran, if one is asked for.
+fn is_counted(asked: &Option<ReportArguments>) -> bool
+    ensures { result ≡ is_counted asked.now }
 {
     match asked {
-        Some(asked) => is_coverage(asked.report),
+        Some(asked) => wants_counts(asked.report),
         None => false,
     }
 }
 
-/// Whether a report is a coverage.
-fn is_coverage(report: Report) -> bool
-    ensures { result ≡ is_coverage report }
+/// Whether a report wants to know how often words ran.
+fn wants_counts(report: Report) -> bool
+    ensures { result ≡ wants_counts report }
 {
     match report {
         Report::Signature(_) => false,
-        Report::Coverage => true,
+        Report::Coverage | Report::Profile { .. } => true,
     }
 }
 
@@ -254,6 +286,7 @@ fn run_to_report<M: Memory, O: Write, T: Write, R: Write>(
     guest: &mut Debugged<M>,
     arguments: &RunArguments,
     input: &[u8],
+    symbols: &[u8],
     kept: &mut Kept,
     output: &mut O,
     files: &mut RunFiles<T, R>,
@@ -264,10 +297,12 @@ fn run_to_report<M: Memory, O: Write, T: Write, R: Write>(
         (O.contents output.old) (O.contents output.new)
         (T.contents files.old.trace) (T.contents files.new.trace)) }
     ensures report { OnOk result ((pieces : List Piece)
-        → (is_covered arguments.now.report ≡ true → Covers kept.old.counts kept.old.segments.items pieces)
+        → (is_counted arguments.now.report ≡ true
+        → Covers arguments.now.guest.pages kept.old.counts kept.old.segments.items pieces)
         → Appends (R.contents files.old.report) (R.contents files.new.report)
-        (report_text arguments.now.report pieces (run_with arguments.now.stop_at_fault
-        (traced_of arguments.now.trace) arguments.now.steps input.now guest.old.guest))) }
+        (report_text arguments.now.report arguments.now.guest.pages pieces symbols.now
+        (run_with arguments.now.stop_at_fault (traced_of arguments.now.trace) arguments.now.steps input.now
+        guest.old.guest))) }
     ensures some { OnErr result (Writes (run_with arguments.now.stop_at_fault (traced_of arguments.now.trace)
         arguments.now.steps input.now guest.old.guest) arguments.now.trace arguments.now.report) }
 {
@@ -279,7 +314,7 @@ fn run_to_report<M: Memory, O: Write, T: Write, R: Write>(
         output,
         &mut files.trace,
     )?;
-    write_report(guest, &arguments.report, kept, &mut files.report)?;
+    write_report(guest, &arguments.report, symbols, kept, &mut files.report)?;
     Ok(ended)
 }
 
