@@ -4,6 +4,7 @@ ghost use Rattle.std.specs.Prelude.{◌≡◌, ◌<◌, ◌≤◌, ◌++◌, ℕ
 ghost use Rattle.rvm_board.specs.Guest.{GuestState};
 ghost use Rattle.rvm_guest.specs.TheGuest.{board};
 ghost use Rattle.rvm_guest.specs.Valid.{is_valid};
+ghost use Rattle.rvm_audit.specs.Cuts.{Completes, Contradicts};
 ghost use Rattle.rvm_audit.specs.Hosts.{HostEntry};
 ghost use Rattle.rvm_audit.specs.Orders.{IsClosed, IsDeadEnd, IsInterleaving, IsOrder, IsStuck, Journals, cut};
 ghost use Rattle.rvm_audit.specs.Worlds.{AreNew, AreOneHistory, IsWorldRun, accepted_entries};
@@ -69,4 +70,10 @@ pub fn dead_ends_are_greatest()
     ensures one { (j : Journals) (places others : ℕ → ℕ) (events other_events : List Event) → IsDeadEnd j places
         → IsDeadEnd j others → IsOrder (cut places j) events → IsOrder (cut others j) other_events
         → (x : ℕ) → x < j.openings.count → places x ≡ others x }
+{}
+
+/// Journals that contradict one another have no order, however those of them that were cut went on.
+pub fn contradictions_stay()
+    ensures { (j whole : Journals) (is_cut : ℕ → Bool) (places : ℕ → ℕ) (members : ℕ → Bool) (events : List Event)
+        → Contradicts j is_cut places members → Completes j is_cut whole → IsOrder whole events → ⊥ }
 {}
