@@ -12,7 +12,7 @@ use Rattle.rvm_protocol.specs.Host.{is_there}
 use Rattle.rvm_audit.specs.Hosts.{HasBytes, HostEntry, Made, cons_if, entries_at, made_more}
 use Rattle.rvm_audit.specs.Orders.{CameUnmade, IsStuck, Journals, MadeBelow}
 use Rattle.rvm_audit.specs.Cuts.{Contradicts, IsContradiction, IsExplained, IsExplanation, all_made}
-use Rattle.rvm_audit.proofs.Gets.{get_either, get_front, take_get}
+use Rattle.rvm_audit.proofs.Gets.{get_end, get_front, take_get}
 use Rattle.rvm_audit.proofs.Steps.{and_first, cons_append, own_entries}
 
 -- THE FRAMES OF A SEQUENCE
@@ -186,15 +186,11 @@ module _ (j : Journals) (is_cut : ℕ → Bool) (places : ℕ → ℕ) (members 
               let here_is : slice_get (j.entries y) (places y) ≡ Some s.1 =
               subst (λ i. slice_get (j.entries y) i ≡ Some s.1) place
               (of_journal (suc k) y (length (done k y)) s.1 lt
-              (ap (λ xs. slice_get xs (length (done k y))) longer ∙ last (done k y) s.1))
+              (ap (λ xs. slice_get xs (length (done k y))) longer ∙ get_end (done k y) s.1))
               in
               absurd (stuck_here here_is (c.stuck y lt here)))
         ]
       where
-        last : {X : Type 0} (xs : List X) (x : X) → slice_get (xs ++ x ∷ []) (length xs) ≡ Some x
-        last [] x = refl
-        last (z ∷ xs) x = last xs x
-
         stuck_here : slice_get (j.entries y) (places y) ≡ Some s.1 → IsStuck j places y → ⊥
         stuck_here here_is (inl ended) = let l = slice_get_within (j.entries y) (places y) s.1 here_is in omega (arith, l, ended)
         stuck_here here_is (inr u) =

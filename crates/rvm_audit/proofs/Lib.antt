@@ -5,6 +5,8 @@ pub mod Heard
 pub mod Runs
 pub mod Law
 pub mod Greatest
+pub mod Contradictions
+pub mod Explanations
 pub mod Same
 pub mod Guests
 mod Examples
@@ -14,6 +16,8 @@ pub mod Merges
 pub mod Taken
 pub mod Parts
 pub mod Lists
+pub mod Passages
+pub mod Passed
 pub mod OrderLines
 pub mod Two
 mod Keys

@@ -16,8 +16,8 @@ use Rattle.rvm_audit.specs.Orders.{CameUnmade, IsClosed, IsStuck, Journals, Made
 use Rattle.rvm_audit.specs.Merging.{Places, key_of, noted}
 use Rattle.rvm_audit.specs.Cuts.{AllExplained, Contradicts, IsContradiction, IsExplained, IsExplanation, all_made}
 use Rattle.rvm_audit.specs.Passing.{AreKnown, HasPassed, IsBlocked, IsPassage, MayNotPass, MayPass}
-use Rattle.rvm_audit.proofs.Gets.{get_end, get_front, get_last, get_nothing, get_take, take_get}
-use Rattle.rvm_audit.proofs.Steps.{and_first}
+use Rattle.rvm_audit.proofs.Gets.{get_end, get_front, get_last, get_nothing, get_take}
+use Rattle.rvm_audit.proofs.Steps.{and_first, done_next, within_next}
 use Rattle.rvm_audit.proofs.Explanations.{IsAmong, entries_append, made_among}
 
 -- THE FRAMES THAT ARE KNOWN
@@ -88,16 +88,6 @@ take_front zero [] (y ∷ ys) le = refl
 take_front zero (x ∷ xs) ys le = refl
 take_front (suc k) [] ys le = absurd (omega (arith, le))
 take_front (suc k) (x ∷ xs) ys le = ap (λ zs. x ∷ zs) (take_front k xs ys (omega (arith, le)))
-
-done_next : (b : Bool) (i k : ℕ) (n : PlainEntry) (xs : List PlainEntry) → (b ≡ true → (slice_get xs i ≡ Some n) × (k ≡ suc i))
-    → take i xs ++ cons_if b n [] ≡ take (if b then k else i) xs
-done_next true i k n xs is = sym (take_get xs i n (is refl).0) ∙ ap (λ m. take m xs) (sym (is refl).1)
-done_next false i k n xs is = append-nil (take i xs)
-
-within_next : (b : Bool) (i k : ℕ) (n : PlainEntry) (xs : List PlainEntry) → (b ≡ true → (slice_get xs i ≡ Some n) × (k ≡ suc i))
-    → i ≤ length xs → (if b then k else i) ≤ length xs
-within_next true i k n xs is le = let l = slice_get_within xs i n (is refl).0 in let e = (is refl).1 in omega (arith, l, e)
-within_next false i k n xs is le = le
 
 ended_next : (b : Bool) (i k : ℕ) (n : PlainEntry) (xs : List PlainEntry) → (b ≡ true → slice_get xs i ≡ Some n)
     → i ≡ length xs → (if b then k else i) ≡ length xs

@@ -1,5 +1,5 @@
 -- Going through journals of which some were cut: what may be passed, and how far it came.
-use Rattle.std.specs.Prelude.{◌≡◌, ◌⊎◌, ℕ, ◌<◌, ◌≤◌, Bool, true, false, not, List, ◌∷◌, Some, None, is_some, length, slice_get, take}
+use Rattle.std.specs.Prelude.{◌≡◌, ◌⊎◌, ℕ, ◌<◌, ◌≤◌, ◌+◌, Bool, true, false, not, List, ◌∷◌, Some, is_some, length, set, slice_get, take}
 use Rattle.rvm_frame.specs.declared.frame.Frame.{Frame}
 use Rattle.rvm_recorder.specs.declared.item.ItemRef.{ItemRef}
 use Rattle.rvm_recorder.specs.declared.item.ItemRef.TheVariants as look
@@ -98,6 +98,13 @@ module _ (version count x : ℕ) where
       MayNotPass version count x (places_of old.made) (marked old.spent.items) e.now.event × (new ≡ old)
   ItemBlocks (look.Steps s) old new = ⊥
   ItemBlocks (look.Rounds r) old new = ⊥
+
+-- the journal of host x was taken to its end: if it was cut, the host is spent; the next host to ask is the one after
+-- it, or the first if the host was not spent before
+abbrev pub EndsJournal : (is_cut : Bool) → (x : ℕ) → (old new : Known) → (next : ℕ) → Type 0
+EndsJournal is_cut x old new next =
+    ((is_cut ≡ true → marked old.spent.items x ≡ true) × (new ≡ old) × (next ≡ x + 1))
+    ⊎ ((is_cut ≡ true) × (new.made ≡ old.made) × (new.spent.items ≡ set old.spent.items x true) × (next ≡ 0))
 
 -- the parts were gone through up to these places
 pub record IsPassing (parts : List Part) (cuts : List Bool) (places : List Place) (known : Known) : Type 0 where

@@ -1,11 +1,9 @@
 //! What is known of the frames that hosts made, when journals that were cut are gone through.
 
-ghost use Rattle.std.specs.Prelude.{◌≡◌, ◌<◌, IfOk, MatchOption, None, false, length, true, ℕ, List};
-ghost use Rattle.std.specs.Prelude.{replicate, slice_get, Some};
-ghost use Rattle.rvm_recorder.specs.Items.{entries_at};
+ghost use Rattle.std.specs.Prelude.{◌≡◌, ◌<◌, ◌||◌, IfOk, MatchOption, List, None, ℕ, false, is_some, length, replicate, set, true};
 ghost use Rattle.rvm_audit.specs.Cuts.{marked};
 ghost use Rattle.rvm_audit.specs.Merging.{places_of};
-ghost use Rattle.rvm_audit.specs.Passing.{ItemBlocks, ItemPasses, IsEntryPassed, MayCome, MayPass, MayNotCome, MayNotPass};
+ghost use Rattle.rvm_audit.specs.Passing.{IsEntryPassed, ItemBlocks, ItemPasses, MayCome, MayNotCome, MayNotPass, MayPass};
 
 use crate::frames::{came, key_of_coming, note_frame};
 use crate::places::{Places, lookup};
@@ -83,7 +81,8 @@ impl Known {
     ) -> Result<Option<Passed>, AllocError>
         requires all { length self.old.spent.items ≡ count }
         ensures { IfOk result (λ o. MatchOption o
-            (MayNotPass version count host entry.now.event self.old × (self.new ≡ self.old))
+            (MayNotPass version count host (places_of self.old.made) (marked self.old.spent.items) entry.now.event
+            × (self.new ≡ self.old))
             (λ p. IsEntryPassed version count host entry.now p self.old self.new)) }
     {
         if !self.may_pass(alloc, host, count, version, entry.exchange())? {
@@ -106,8 +105,10 @@ impl Known {
         exchange: &Exchange,
     ) -> Result<bool, AllocError>
         requires all { length self.now.spent.items ≡ count }
-        ensures yes { IfOk result (λ b. b ≡ true → MayPass version count host exchange.now.event self.now) }
-        ensures no { IfOk result (λ b. b ≡ false → MayNotPass version count host exchange.now.event self.now) }
+        ensures yes { IfOk result (λ b. b ≡ true
+            → MayPass version count host (places_of self.now.made) (marked self.now.spent.items) exchange.now.event) }
+        ensures no { IfOk result (λ b. b ≡ false
+            → MayNotPass version count host (places_of self.now.made) (marked self.now.spent.items) exchange.now.event) }
     {
         match came(exchange) {
             None => Ok(true),
@@ -129,8 +130,10 @@ impl Known {
         frame: &Frame,
     ) -> Result<bool, AllocError>
         requires all { length self.now.spent.items ≡ count }
-        ensures yes { IfOk result (λ b. b ≡ true → MayCome version count host from frame.now self.now) }
-        ensures no { IfOk result (λ b. b ≡ false → MayNotCome version count host from frame.now self.now) }
+        ensures yes { IfOk result (λ b. b ≡ true
+            → MayCome version count host (places_of self.now.made) (marked self.now.spent.items) from frame.now) }
+        ensures no { IfOk result (λ b. b ≡ false
+            → MayNotCome version count host (places_of self.now.made) (marked self.now.spent.items) from frame.now) }
     {
         match key_of_coming(alloc, host, count, version, from, frame)? {
             None => Ok(false),

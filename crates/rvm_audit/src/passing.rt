@@ -4,7 +4,7 @@ ghost use Rattle.std.specs.Prelude.{◌≡◌, ◌≤◌, ◌<◌, IfOk, OnOk, l
 ghost use Rattle.rvm_audit.specs.Cuts.{marked};
 ghost use Rattle.rvm_audit.specs.Orders.{Journals};
 ghost use Rattle.rvm_audit.specs.Parts.{AreOf, AreSized, taken};
-ghost use Rattle.rvm_audit.specs.Passing.{AllBlocked, HasPassed, IsPassing};
+ghost use Rattle.rvm_audit.specs.Passing.{AllBlocked, EndsJournal, HasPassed, IsPassing};
 
 use crate::known::Known;
 use crate::merging::woken;
@@ -64,10 +64,11 @@ fn pass_turn(
 {
     let part = parts[host as usize];
     let place = places[host as usize];
-    let hosts = parts.len() as u8;
-    let Some(item) = part.items.get(place.items) else {
+    if place.items >= part.items.len() {
         return Ok(end_journal(known, cuts[host as usize], host));
-    };
+    }
+    let hosts = parts.len() as u8;
+    let item = &part.items[place.items];
     match known.pass_item(alloc, host, hosts, part.version, item.look())? {
         None => Ok(host + 1),
         Some(passed) => {
@@ -80,9 +81,12 @@ fn pass_turn(
     }
 }
 
-/// Marks a host as spent if its journal, which was taken to its end, was cut. Returns the host to ask next: the first
-/// if it was not marked before, else the one behind this.
+/// Marks a host whose journal was taken to its end as spent, if the journal was cut. Returns the host to ask next: the
+/// first if this one was marked now, else the one after it.
 fn end_journal(known: &mut Known, is_cut: bool, host: u8) -> u8
+    requires few { host < 8 }
+    requires there { host < length known.old.spent.items }
+    ensures { EndsJournal is_cut host known.old known.new result }
 {
     if !is_cut || known.spent[host as usize] {
         return host + 1;
