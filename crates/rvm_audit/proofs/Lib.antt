@@ -5,11 +5,11 @@ pub mod Heard
 pub mod Runs
 pub mod Law
 pub mod Greatest
-pub mod Contradictions
 pub mod Explanations
 pub mod Same
 pub mod Guests
-mod Examples
+pub mod Examples
+mod ExamplesOfCuts
 pub mod Spellings
 pub mod Commands
 pub mod Merges
@@ -17,6 +17,7 @@ pub mod Taken
 pub mod Parts
 pub mod Lists
 pub mod Passages
+pub mod Kept
 pub mod Passed
 pub mod OrderLines
 pub mod Two

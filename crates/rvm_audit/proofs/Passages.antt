@@ -72,7 +72,7 @@ known_next x (Some new) place made p q known own = record {
 
 -- ONE ENTRY MORE
 
-made_append : (ss : List HostEntry) (x : ℕ) (n : PlainEntry) → all_made (ss ++ (x, n) ∷ []) ≡ all_made ss ++ made_more x n.frame
+pub made_append : (ss : List HostEntry) (x : ℕ) (n : PlainEntry) → all_made (ss ++ (x, n) ∷ []) ≡ all_made ss ++ made_more x n.frame
 made_append [] x n = append-nil (made_more x n.frame)
 made_append (s ∷ ss) x n =
     ap (λ ms. made_more s.0 s.1.frame ++ ms) (made_append ss x n)
@@ -93,6 +93,29 @@ ended_next : (b : Bool) (i k : ℕ) (n : PlainEntry) (xs : List PlainEntry) → 
     → i ≡ length xs → (if b then k else i) ≡ length xs
 ended_next true i k n xs is ended = let l = slice_get_within xs i n (is refl) in absurd (omega (arith, l, ended))
 ended_next false i k n xs is ended = ended
+
+-- one more entry that is explained by those before it
+pub all_snoc : (j : Journals) (is_cut : ℕ → Bool) (ss : List HostEntry) (x : ℕ) (n : PlainEntry) → x < j.openings.count
+    → IsExplained j is_cut ss x n.event → AllExplained j is_cut ss → AllExplained j is_cut (ss ++ (x, n) ∷ [])
+all_snoc j is_cut ss x n lt so all = record {
+  there = λ k s is. elim (get_last ss (x, n) k s is) [
+    | inl here ↦ all.there k s here
+    | inr last ↦ subst (λ (t : HostEntry). t.0 < j.openings.count) last.0 lt
+  ];
+  explained = λ k s is. elim (get_last ss (x, n) k s is) [
+    | inl here ↦
+        (let l = slice_get_within ss k s here in
+        subst (λ ts. IsExplained j is_cut ts s.0 s.1.event) (sym (take_front k ss ((x, n) ∷ []) (omega (arith, l))))
+        (all.explained k s here))
+    | inr last ↦
+        (let k_is = last.1 in
+        let before : take k (ss ++ (x, n) ∷ []) ≡ ss =
+        take_front k ss ((x, n) ∷ []) (omega (arith, k_is)) ∙ ap (λ i. take i ss) k_is ∙ take-length ss
+        in
+        subst (λ ts. IsExplained j is_cut ts s.0 s.1.event) (sym before)
+        (subst (λ (t : HostEntry). IsExplained j is_cut ss t.0 t.1.event) last.0 so))
+  ];
+}
 
 module _ (j : Journals) (is_cut : ℕ → Bool) (at : ℕ → ℕ) (made : Places) (spent : ℕ → Bool)
     (m : IsPassage j is_cut at made spent) where
@@ -118,29 +141,6 @@ module _ (j : Journals) (is_cut : ℕ → Bool) (at : ℕ → ℕ) (made : Place
         let f = m.known.found from may.bytes is in
         inl (record { place = f.0; bytes = may.bytes; other = may.other; stands = f.1; same = may.same })
 
-  all_next : (x : ℕ) (n : PlainEntry) → x < j.openings.count
-      → MayPass (j.openings.host x).version j.openings.count x made spent n.event
-      → AllExplained j is_cut (m.sequence ++ (x, n) ∷ [])
-  all_next x n lt may = record {
-    there = λ k s is. elim (get_last m.sequence (x, n) k s is) [
-      | inl here ↦ m.all.there k s here
-      | inr last ↦ subst (λ (t : HostEntry). t.0 < j.openings.count) last.0 lt
-    ];
-    explained = λ k s is. elim (get_last m.sequence (x, n) k s is) [
-      | inl here ↦
-          (let l = slice_get_within m.sequence k s here in
-          subst (λ ts. IsExplained j is_cut ts s.0 s.1.event)
-          (sym (take_front k m.sequence ((x, n) ∷ []) (omega (arith, l)))) (m.all.explained k s here))
-      | inr last ↦
-          (let k_is = last.1 in
-          let before : take k (m.sequence ++ (x, n) ∷ []) ≡ m.sequence =
-          take_front k m.sequence ((x, n) ∷ []) (omega (arith, k_is)) ∙ ap (λ i. take i m.sequence) k_is ∙ take-length m.sequence
-          in
-          subst (λ ts. IsExplained j is_cut ts s.0 s.1.event) (sym before)
-          (subst (λ (t : HostEntry). IsExplained j is_cut m.sequence t.0 t.1.event) last.0 (explained x n.event may)))
-    ];
-  }
-
   pub pass_one : (x : ℕ) → x < j.openings.count → (n : PlainEntry) → slice_get (j.entries x) (at x) ≡ Some n
       → MayPass (j.openings.host x).version j.openings.count x made spent n.event → (place : ℕ) (made' : Places)
       → ((key : List ℕ) → made' key ≡ noted (key_of x n.frame) place made key)
@@ -159,7 +159,7 @@ module _ (j : Journals) (is_cut : ℕ → Bool) (at : ℕ → ℕ) (made : Place
         entries = λ y y_lt.
             entries_append y m.sequence ((x, n) ∷ []) ∙ ap (λ xs. xs ++ cons_if (y == x) n []) (m.entries y y_lt)
             ∙ done_next (y == x) (at y) (at x + 1) n (j.entries y) (next y);
-        all = all_next x n lt may;
+        all = all_snoc j is_cut m.sequence x n lt (explained x n.event may) m.all;
         known = subst (λ ms. AreKnown ms made') (sym (made_append m.sequence x n))
             (known_next x n.frame place (all_made m.sequence) made made' m.known own);
         ended = λ y y_lt is.
