@@ -22,7 +22,7 @@ use Rattle.rvm_audit.proofs.Runs.{ends_of}
 -- a source keeps the guest that it gave, whichever it was
 module _ (kept : Guest) where
   -- host 0 gave its guest to host 1
-  abbrev opening : ℕ → PlainHost
+  abbrev pub opening : ℕ → PlainHost
   opening x =
       record {
         mode = if x == 0 then Given 1 kept else Empty 0;
@@ -33,26 +33,26 @@ module _ (kept : Guest) where
         version = 3;
       }
 
-  abbrev three : Openings
+  abbrev pub three : Openings
   three = record { count = 3; host = opening }
 
   -- Go of move 1, from host 0 to host 1
-  abbrev go_bytes : List ℕ
+  abbrev pub go_bytes : List ℕ
   go_bytes = 9 ∷ 0 ∷ 1 ∷ 1 ∷ 0 ∷ 0 ∷ 0 ∷ 0 ∷ 0 ∷ 0 ∷ 0 ∷ 0 ∷ 0 ∷ 0 ∷ 0 ∷ []
 
-  abbrev sends_go : PlainEntry
+  abbrev pub sends_go : PlainEntry
   sends_go = record { event = Do Resend; reply = Resent; frame = Some go_bytes }
 
-  abbrev takes_go : PlainEntry
+  abbrev pub takes_go : PlainEntry
   takes_go = record { event = Came 0 (Go 1); reply = Refused Ignored; frame = None }
 
-  abbrev entries : (third : List PlainEntry) → ℕ → List PlainEntry
+  abbrev pub entries : (third : List PlainEntry) → ℕ → List PlainEntry
   entries third zero = sends_go ∷ []
   entries third (suc zero) = takes_go ∷ []
   entries third (suc (suc zero)) = third
   entries third x = []
 
-  abbrev journals : (third : List PlainEntry) → Journals
+  abbrev pub journals : (third : List PlainEntry) → Journals
   journals third = record { openings = three; entries = entries third }
 
   abbrev sequence : List HostEntry
@@ -68,7 +68,7 @@ module _ (kept : Guest) where
   go_was_made : (after_all three (opened three) sequence).made ≡ (0, go_bytes) ∷ []
   go_was_made = refl
 
-  its_bytes : HasBytes 3 0 1 (Go 1) go_bytes
+  pub its_bytes : HasBytes 3 0 1 (Go 1) go_bytes
   its_bytes = record {
     spelled = record { hosts = refl; move_number = refl; body = refl; body_length = omega arith };
     bytes_are = refl;
@@ -108,7 +108,7 @@ module _ (kept : Guest) where
   same (suc (suc zero)) lt = refl
   same (suc (suc (suc x))) lt = absurd (omega (arith, lt))
 
-  an_order : IsOrder (journals []) events
+  pub an_order : IsOrder (journals []) events
   an_order = record { sequence = sequence; run = a_run; entries = same; ends = ends_of (journals []) sequence same }
 
   replays : (x : ℕ) → x < 3 → IsReplay (opening x) (entries [] x)

@@ -5,15 +5,20 @@ pub mod Heard
 pub mod Runs
 pub mod Law
 pub mod Greatest
+pub mod Explanations
 pub mod Same
 pub mod Guests
-mod Examples
+pub mod Examples
+mod ExamplesOfCuts
 pub mod Spellings
 pub mod Commands
 pub mod Merges
 pub mod Taken
 pub mod Parts
 pub mod Lists
+pub mod Passages
+pub mod Kept
+pub mod Passed
 pub mod OrderLines
 pub mod Two
 mod Keys

@@ -19,7 +19,7 @@ use Rattle.rvm_audit.specs.Hosts.{HasBytes, HostEntry, Hosts, IsEvent, IsRun, Ma
 use Rattle.rvm_audit.specs.Orders.{CameUnmade, IsStuck, Journals, cut}
 use Rattle.rvm_audit.proofs.Gets.{drop_end, drop_get, get_end, get_front, get_last, get_nothing, get_take, take_get}
 use Rattle.rvm_audit.proofs.Runs.{ends_of, host_after}
-use Rattle.rvm_audit.proofs.Steps.{and_first, cons_append}
+use Rattle.rvm_audit.proofs.Steps.{and_first, cons_append, done_next, within_next}
 use Rattle.rvm_audit.specs.Merged.{IsIndex, Merged}
 use Rattle.rvm_audit.specs.Merging.{Becomes, IsUnmade, IsWaiting, Places, counted, key_of, noted}
 use Rattle.rvm_audit.specs.Rule.{AllLowest, AllTurns, CannotStand, IsEnd, IsLowestAt, IsMerge, IsTurn}
@@ -132,21 +132,11 @@ behind y ss x n rest left is =
     ap (λ es. es ++ rest) (entries_snoc y ss x n) ∙ append_assoc (entries_at y ss) (cons_if (y == x) n []) rest
     ∙ ap (λ es. entries_at y ss ++ es) (one_append (y == x) n rest ∙ sym is)
 
--- what is left of a host, and what it has done, after one of its entries
+-- what is left of a host after one of its entries
 left_next : (b : Bool) (i k : ℕ) (n : PlainEntry) (xs : List PlainEntry) → (b ≡ true → (slice_get xs i ≡ Some n) × (k ≡ suc i))
     → drop i xs ≡ cons_if b n (drop (if b then k else i) xs)
 left_next true i k n xs is = drop_get xs i n (is refl).0 ∙ ap (λ m. n ∷ drop m xs) (sym (is refl).1)
 left_next false i k n xs is = refl
-
-done_next : (b : Bool) (i k : ℕ) (n : PlainEntry) (xs : List PlainEntry) → (b ≡ true → (slice_get xs i ≡ Some n) × (k ≡ suc i))
-    → take i xs ++ cons_if b n [] ≡ take (if b then k else i) xs
-done_next true i k n xs is = sym (take_get xs i n (is refl).0) ∙ ap (λ m. take m xs) (sym (is refl).1)
-done_next false i k n xs is = append-nil (take i xs)
-
-within_next : (b : Bool) (i k : ℕ) (n : PlainEntry) (xs : List PlainEntry) → (b ≡ true → (slice_get xs i ≡ Some n) × (k ≡ suc i))
-    → i ≤ length xs → (if b then k else i) ≤ length xs
-within_next true i k n xs is le = let l = slice_get_within xs i n (is refl).0 in let e = (is refl).1 in omega (arith, l, e)
-within_next false i k n xs is le = le
 
 replay_at : (o : PlainHost) (h : LawHost) (xs : List PlainEntry) → IsReplayFrom o h xs → (i : ℕ) (n : PlainEntry)
     → slice_get xs i ≡ Some n → IsAnswered o.version (outcome_at o (replay_from o h (take i xs)) (event_of n.event)) n

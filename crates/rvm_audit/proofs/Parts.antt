@@ -23,7 +23,7 @@ abbrev pub start : Place
 start = record { items = 0; entries = 0 }
 
 -- each part that is there can be looked at
-part_at : {X : Type 0} (xs : List X) (x : ℕ) → x < length xs → (a : X) × (slice_get xs x ≡ Some a)
+pub part_at : {X : Type 0} (xs : List X) (x : ℕ) → x < length xs → (a : X) × (slice_get xs x ≡ Some a)
 part_at [] x lt = absurd (omega (arith, lt))
 part_at (a ∷ xs) zero lt = (a, refl)
 part_at (a ∷ xs) (suc x) lt = part_at xs x (omega (arith, lt))
@@ -40,7 +40,7 @@ waits_in j parts places p n are all x lt there =
     (subst (λ xs. IsWaiting part.0.version (length parts) x xs (taken places x) p) is_of.entries_are
     (all x part.0 lt part.1)))
 
-nothing_at : (part : Part) → IsAt part start
+pub nothing_at : (part : Part) → IsAt part start
 nothing_at part = let none : 0 ≤ length (entries_in part) = omega arith in record { within = none; left = refl }
 
 -- nothing was taken

@@ -1,6 +1,6 @@
 -- The bytes of a frame that comes.
-use Rattle.std.proofs.Common.{◌≡◌, ◌∙◌, ℕ, ◌<◌, ◌&&◌, not, true, Option, Some, None, List, [], ◌∷◌, MatchOption, sym, ap, subst}
-use Rattle.std.specs.Prelude.{Vec}
+use Rattle.std.proofs.Common.{◌≡◌, ◌∙◌, ℕ, ◌<◌, ◌&&◌, ◌||◌, not, Bool, true, false, Option, Some, None, List, [], ◌∷◌, MatchOption, refl, sym, ap, subst}
+use Rattle.std.specs.Prelude.{Vec, is_some, ◌⊎◌}
 use Rattle.std.specs.BTreeMap.{BTreeMap, is_at}
 use Rattle.std.specs.Cmp.Lexicographic.{slice_cmp}
 use Rattle.std.specs.Map.{lookup}
@@ -10,8 +10,10 @@ use Rattle.rvm_frame.specs.declared.addressed.Addressed.{Addressed}
 use Rattle.rvm_frame.specs.declared.frame.Frame.{Frame}
 use Rattle.rvm_frame.specs.Grammar.{HasSpelling, sent, spelling}
 use Rattle.rvm_protocol.specs.Host.{is_there}
-use Rattle.rvm_audit.specs.Hosts.{coming}
-use Rattle.rvm_audit.specs.Merging.{IsPlaced, IsUnplaced, Places, places_of}
+use Rattle.rvm_audit.specs.Hosts.{HasBytes, coming}
+use Rattle.rvm_audit.specs.Merging.{IsKey, IsNoFrame, IsPlaced, IsUnplaced, Places, places_of}
+use Rattle.rvm_audit.specs.Passing.{MayCome, MayNotCome}
+use Rattle.rvm_audit.proofs.Steps.{or_true}
 
 -- a map without entries has no place for any key
 pub no_place : {A : Type 0} (map : BTreeMap (Vec ℕ A) ℕ) → map.entries ≡ [] → (key : List ℕ) → places_of map key ≡ None
@@ -25,21 +27,59 @@ pub is_coming : (from to : ℕ) (f g : Frame) → g ≡ f
     → ◌≡◌ {A = Addressed} (record { from = from; to = to; frame = g }) (coming from to f)
 is_coming from to f g is = λ j. record { from = from; to = to; frame = is j }
 
--- the key of a frame has a place, or has none
-pub placed : (version count x from : ℕ) (f : Frame) (places : Places) (a : Addressed) (key : List ℕ) (o : Option ℕ)
-    → is_there x count from ≡ true → HasSpelling (sent version a) → a ≡ coming from x f
-    → key ≡ from ∷ spelling (sent version a) → o ≡ places key
-    → MatchOption o (IsUnplaced version count x from f places) (λ k. IsPlaced version count x from f places k)
-placed version count x from f places a key None other has a_is is found =
-    λ bytes there same.
-    ap (λ (b : List ℕ). places (from ∷ b)) (same.bytes_are ∙ sym (ap (λ (y : Addressed). spelling (sent version y)) a_is))
-    ∙ ap places (sym is) ∙ sym found
-placed version count x from f places a key (Some k) other has a_is is found = record {
+-- the key of a frame that comes
+pub is_key : (version count x from : ℕ) (f : Frame) (a : Addressed) (key : List ℕ) → is_there x count from ≡ true
+    → HasSpelling (sent version a) → a ≡ coming from x f → key ≡ from ∷ spelling (sent version a)
+    → IsKey version count x from f key
+is_key version count x from f a key other has a_is is = record {
   bytes = spelling (sent version a);
   other = other;
   same = record {
     spelled = subst (λ (y : Addressed). HasSpelling (sent version y)) a_is has;
     bytes_are = ap (λ (y : Addressed). spelling (sent version y)) a_is;
   };
-  there = ap places (sym is) ∙ sym found;
+  key_is = is;
 }
+
+-- a frame has no other key
+one_key : (version count x from : ℕ) (f : Frame) (key bytes : List ℕ) → IsKey version count x from f key
+    → HasBytes version from x f bytes → from ∷ bytes ≡ key
+one_key version count x from f key bytes k has =
+    ap (λ (b : List ℕ). from ∷ b) (has.bytes_are ∙ sym k.same.bytes_are) ∙ sym k.key_is
+
+-- the key of a frame has a place, or has none
+pub placed : (version count x from : ℕ) (f : Frame) (places : Places) (key : List ℕ) (o : Option ℕ)
+    → IsKey version count x from f key → o ≡ places key
+    → MatchOption o (IsUnplaced version count x from f places) (λ k. IsPlaced version count x from f places k)
+placed version count x from f places key None k found =
+    λ bytes there same. ap places (one_key version count x from f key bytes k same) ∙ sym found
+placed version count x from f places key (Some n) k found =
+    record { bytes = k.bytes; other = k.other; same = k.same; there = ap places (sym k.key_is) ∙ sym found }
+
+pub unplaced : (version count x from : ℕ) (f : Frame) (places : Places) → IsNoFrame version count x from f
+    → IsUnplaced version count x from f places
+unplaced version count x from f places never = λ bytes other same. absurd (never bytes other same)
+
+both_false : (a b : Bool) → (a || b) ≡ false → (a ≡ false) × (b ≡ false)
+both_false true b h = cc
+both_false false b h = (refl, h)
+
+-- whether a frame may have been made, by its key
+module _ (version count x from : ℕ) (f : Frame) (made : Places) (spent : ℕ → Bool) where
+  pub may_not_come : IsNoFrame version count x from f → MayNotCome version count x made spent from f
+  may_not_come never = λ bytes other same. absurd (never bytes other same)
+
+  module _ (key : List ℕ) (k : IsKey version count x from f key) (b : Bool) (is : b ≡ (spent from || is_some (made key))) where
+    pub comes_if : b ≡ true → MayCome version count x made spent from f
+    comes_if yes = record {
+      bytes = k.bytes;
+      other = k.other;
+      same = k.same;
+      may = subst (λ (m : List ℕ). (spent from ≡ true) ⊎ (is_some (made m) ≡ true)) k.key_is
+          (or_true (spent from) (is_some (made key)) (sym is ∙ yes));
+    }
+
+    pub stays_if : b ≡ false → MayNotCome version count x made spent from f
+    stays_if no_so = λ bytes other same.
+        subst (λ (m : List ℕ). (spent from ≡ false) × (is_some (made m) ≡ false))
+        (sym (one_key version count x from f key bytes k same)) (both_false (spent from) (is_some (made key)) (sym is ∙ no_so))

@@ -1,12 +1,12 @@
 -- Steps of hosts by number.
-use Rattle.std.proofs.Common.{◌≡◌, ℕ, zero, suc, ◌≤◌, ◌≢◌, ◌&&◌, ◌||◌, Bool, true, false, if◌then◌else◌, List, [], ◌∷◌, ◌++◌, Option, length, take, Some, None, refl, ap, arith, inl, inr}
+use Rattle.std.proofs.Common.{◌≡◌, ◌∙◌, ℕ, zero, suc, ◌≤◌, ◌≢◌, ◌&&◌, ◌||◌, Bool, true, false, if◌then◌else◌, List, [], ◌∷◌, ◌++◌, Option, length, take, Some, None, append-nil, refl, sym, ap, arith, inl, inr}
 use Rattle.std.specs.Prelude.{slice_get, ◌⊎◌}
 use Rattle.std.proofs.lemmas.Bool.{eq-eqb, ne_eqb}
-use Rattle.std.proofs.lemmas.Option.{some_pair_parts}
+use Rattle.std.proofs.lemmas.Option.{slice_get_within, some_pair_parts}
 use Rattle.rvm_recorder.specs.Entries.{PlainEntry}
 use Rattle.rvm_protocol.specs.Pages.{put}
 use Rattle.rvm_audit.specs.Hosts.{Made, HostEntry, cons_if, entries_at, made_more}
-use Rattle.rvm_audit.proofs.Gets.{get_last, get_nothing}
+use Rattle.rvm_audit.proofs.Gets.{get_last, get_nothing, take_get}
 
 -- TESTS
 
@@ -66,3 +66,14 @@ get_back zero (x ∷ xs) k s at = cc
 get_back (suc q) [] k s at = at
 get_back (suc q) (x ∷ xs) zero s at = at
 get_back (suc q) (x ∷ xs) (suc k) s at = get_back q xs k s at
+
+-- what a host has done, and how far it is, after one of its entries
+pub done_next : (b : Bool) (i k : ℕ) (n : PlainEntry) (xs : List PlainEntry) → (b ≡ true → (slice_get xs i ≡ Some n) × (k ≡ suc i))
+    → take i xs ++ cons_if b n [] ≡ take (if b then k else i) xs
+done_next true i k n xs is = sym (take_get xs i n (is refl).0) ∙ ap (λ m. take m xs) (sym (is refl).1)
+done_next false i k n xs is = append-nil (take i xs)
+
+pub within_next : (b : Bool) (i k : ℕ) (n : PlainEntry) (xs : List PlainEntry) → (b ≡ true → (slice_get xs i ≡ Some n) × (k ≡ suc i))
+    → i ≤ length xs → (if b then k else i) ≤ length xs
+within_next true i k n xs is le = let l = slice_get_within xs i n (is refl).0 in let e = (is refl).1 in omega (arith, l, e)
+within_next false i k n xs is le = le

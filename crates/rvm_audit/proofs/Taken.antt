@@ -144,19 +144,19 @@ waits_still version count x entries k p q same waits =
 
 -- PLACES
 
-put_twice : (at : ℕ → ℕ) (x a b c : ℕ) → b ≡ c → ◌≡◌ {A = ℕ → ℕ} (put (put at x a) x b) (put at x c)
+pub put_twice : (at : ℕ → ℕ) (x a b c : ℕ) → b ≡ c → ◌≡◌ {A = ℕ → ℕ} (put (put at x a) x b) (put at x c)
 put_twice at x a b c is = λ i y. twice (y == x) (at y) i where
   twice : (t : Bool) (d : ℕ) → (if t then b else (if t then a else d)) ≡ (if t then c else d)
   twice true d = is
   twice false d = refl
 
-put_none : (at : ℕ → ℕ) (x a : ℕ) → a ≡ at x → ◌≡◌ {A = ℕ → ℕ} (put at x a) at
+pub put_none : (at : ℕ → ℕ) (x a : ℕ) → a ≡ at x → ◌≡◌ {A = ℕ → ℕ} (put at x a) at
 put_none at x a is = λ i y. stays y (y == x) (eqb-true y x) i where
   stays : (y : ℕ) (t : Bool) → (t ≡ true → y ≡ x) → (if t then a else at y) ≡ at y
   stays y true same = is ∙ ap at (sym (same refl))
   stays y false same = refl
 
-put_here : (at : ℕ → ℕ) (x a : ℕ) → put at x a x ≡ a
+pub put_here : (at : ℕ → ℕ) (x a : ℕ) → put at x a x ≡ a
 put_here at x a = ap (λ (t : Bool). if t then a else at x) (eq-eqb x x refl)
 
 -- THE ORDER

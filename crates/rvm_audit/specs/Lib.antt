@@ -9,4 +9,6 @@ pub mod Merging
 pub mod Merged
 pub mod Parts
 pub mod Audits
+pub mod Cuts
+pub mod Passing
 pub mod Errors

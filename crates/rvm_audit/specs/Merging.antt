@@ -42,8 +42,24 @@ abbrev pub counted : Option (List ℕ) → ℕ → ℕ
 counted None n = n
 counted (Some bytes) n = n + 1
 
+-- the event is a command
+abbrev pub IsOfCommand : HostEvent → Type 0
+IsOfCommand (Do c) = Unit {0}
+IsOfCommand (Came from frame) = ⊥
+
 -- the journal that is read is of host x, one of `count` hosts whose streams have this version
 module _ (version count x : ℕ) where
+  -- this is the key of a frame that comes from another host
+  pub record IsKey (from : ℕ) (frame : Frame) (key : List ℕ) : Type 0 where
+    pub bytes : List ℕ
+    pub other : is_there x count from ≡ true
+    pub same : HasBytes version from x frame bytes
+    pub key_is : key ≡ from ∷ bytes
+
+  -- the frame is of no other host, or no stream has it
+  abbrev pub IsNoFrame : (from : ℕ) → Frame → Type 0
+  IsNoFrame from frame = (bytes : List ℕ) → is_there x count from ≡ true → HasBytes version from x frame bytes → ⊥
+
   -- the frame is of another host, and its bytes have this place
   pub record IsPlaced (from : ℕ) (frame : Frame) (places : Places) (k : ℕ) : Type 0 where
     pub bytes : List ℕ

@@ -4,6 +4,7 @@ ghost use Rattle.std.specs.Prelude.{◌≡◌, ◌<◌, ◌≤◌, ◌++◌, ℕ
 ghost use Rattle.rvm_board.specs.Guest.{GuestState};
 ghost use Rattle.rvm_guest.specs.TheGuest.{board};
 ghost use Rattle.rvm_guest.specs.Valid.{is_valid};
+ghost use Rattle.rvm_audit.specs.Cuts.{Completes, Contradicts, IsContradiction, IsExplanation};
 ghost use Rattle.rvm_audit.specs.Hosts.{HostEntry};
 ghost use Rattle.rvm_audit.specs.Orders.{IsClosed, IsDeadEnd, IsInterleaving, IsOrder, IsStuck, Journals, cut};
 ghost use Rattle.rvm_audit.specs.Worlds.{AreNew, AreOneHistory, IsWorldRun, accepted_entries};
@@ -69,4 +70,24 @@ pub fn dead_ends_are_greatest()
     ensures one { (j : Journals) (places others : ℕ → ℕ) (events other_events : List Event) → IsDeadEnd j places
         → IsDeadEnd j others → IsOrder (cut places j) events → IsOrder (cut others j) other_events
         → (x : ℕ) → x < j.openings.count → places x ≡ others x }
+{}
+
+/// Journals that contradict one another have no order, however those of them that were cut went on.
+pub fn contradictions_stay()
+    ensures { (j whole : Journals) (is_cut : ℕ → Bool) (places : ℕ → ℕ) (members : ℕ → Bool) (events : List Event)
+        → Contradicts j is_cut places members → Completes j is_cut whole → IsOrder whole events → ⊥ }
+{}
+
+/// What is left of an order of journals that complete cut ones, once the entries that were cut off are left out, is an
+/// explanation of the cut ones.
+pub fn orders_explain_cut_journals()
+    ensures { (j whole : Journals) (is_cut : ℕ → Bool) (events : List Event)
+        → Completes j is_cut whole → IsOrder whole events
+        → (sequence : List HostEntry) × IsExplanation j is_cut sequence }
+{}
+
+/// Journals that contradict one another have no explanation.
+pub fn contradictory_journals_have_no_explanation()
+    ensures { (j : Journals) (is_cut : ℕ → Bool) (sequence : List HostEntry)
+        → IsContradiction j is_cut → IsExplanation j is_cut sequence → ⊥ }
 {}

@@ -6,10 +6,14 @@
 //! must not know threads or locks. The laws of any number of hosts know no code: their definitions are in `specs/`, in
 //! Hosts, Orders and Worlds.
 //!
-//! To be read in this order: `laws`; `error`, `places`, `placed`, `part`, `merge`, `merging`, `order`, `list`, `lines`.
+//! To be read in this order: `laws`; `error`, `places`, `frames`, `placed`, `part`, `merge`, `merging`, `order`, `list`,
+//! `known`, `passing`, `cuts`, `lines`.
 #![tactic(auto)]
 
+mod cuts;
 mod error;
+mod frames;
+mod known;
 pub mod laws;
 mod lines;
 mod list;
@@ -17,9 +21,11 @@ mod merge;
 mod merging;
 mod order;
 mod part;
+mod passing;
 mod placed;
 mod places;
 
+pub use cuts::are_contradictory;
 pub use error::AuditError;
 pub use lines::write_order;
 pub use list::{Audit, audit_all};

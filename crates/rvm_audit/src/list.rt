@@ -41,7 +41,7 @@ pub fn audit_all<M: PagedMemory + Drop>(
 }
 
 /// What a merge reads of each of these journals.
-fn parts_of<'a, M: PagedMemory + Drop>(
+pub(crate) fn parts_of<'a, M: PagedMemory + Drop>(
     alloc: Global,
     journals: &[&'a Journal<M>],
 ) -> Result<Vec<Part<'a>>, AllocError>
@@ -56,7 +56,10 @@ fn parts_of<'a, M: PagedMemory + Drop>(
 }
 
 /// The index of the first journal that is not at its end, if there is one.
-fn unfinished<M: PagedMemory + Drop>(journals: &[&Journal<M>], places: &[Place]) -> Option<usize>
+pub(crate) fn unfinished<M: PagedMemory + Drop>(
+    journals: &[&Journal<M>],
+    places: &[Place],
+) -> Option<usize>
     requires long { length places.now ≡ length journals.now }
     ensures { MatchOption result
         ((x : ℕ) → x < length journals.now → length (entries_of (histories_of journals.now) x) ≤ taken places.now x)

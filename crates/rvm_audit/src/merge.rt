@@ -5,11 +5,12 @@ ghost use Rattle.rvm_audit.specs.Merging.{AreTaken, AreWaiting, Becomes, IsEntry
 ghost use Rattle.rvm_recorder.specs.Items.{entries_at};
 ghost use Rattle.rvm_message.specs.declared.event.HostEvent.TheVariants.{Came};
 
+use crate::frames::{key_of_coming, note_frame};
 use crate::placed::Order;
-use crate::places::{Places, lookup, note};
+use crate::places::{Places, lookup};
 use rvm_board::BoardEvent;
 use rvm_core::Event;
-use rvm_frame::{Addressed, Frame, frame_bytes, has_spelling};
+use rvm_frame::Frame;
 use rvm_message::{Command, Exchange, ExchangeRef, HostEvent, Shared};
 use rvm_recorder::{Entry, Item, ItemRef};
 use std::alloc::{AllocError, Global};
@@ -134,25 +135,11 @@ impl Merge {
             ≡ noted (key_of host entry.now.frame) self.old.made (places_of self.old.places) key) }
         ensures made { OnOk result (self.new.made ≡ counted entry.now.frame self.old.made) }
     {
-        let Some(frame) = entry.frame() else {
-            return Ok(());
-        };
-        let bytes = frame.to_vec(alloc)?;
-        let key = frame_key(alloc, host, bytes.as_slice())?;
-        note(&mut self.places, key, self.made)?;
-        self.made += 1;
+        if note_frame(alloc, &mut self.places, host, entry, self.made)? {
+            self.made += 1;
+        }
         Ok(())
     }
-}
-
-/// The maker of a frame and its bytes, as one key.
-fn frame_key(alloc: Global, maker: u8, bytes: &[u8]) -> Result<Vec<u8>, AllocError>
-    ensures { IfOk result (λ key. key.items ≡ maker ∷ bytes.now) }
-{
-    let mut key = Vec::new(alloc);
-    key.push(maker)?;
-    key.extend_from_slice(bytes)?;
-    Ok(key)
 }
 
 /// The event of the world that the event of a host's exchange is; none if it cannot stand.
@@ -243,18 +230,8 @@ fn place_of(
         (IsUnplaced version count host from frame.now (places_of places.now))
         (λ k. IsPlaced version count host from frame.now (places_of places.now) k)) }
 {
-    if from >= count || from == host {
-        return Ok(None);
+    match key_of_coming(alloc, host, count, version, from, frame)? {
+        None => Ok(None),
+        Some(key) => Ok(lookup(places, key.as_slice())),
     }
-    let coming = Addressed {
-        from,
-        to: host,
-        frame: frame.copy(alloc)?,
-    };
-    if !has_spelling(version, &coming) {
-        return Ok(None);
-    }
-    let bytes = frame_bytes(alloc, version, &coming)?;
-    let key = frame_key(alloc, from, bytes.as_slice())?;
-    Ok(lookup(places, key.as_slice()))
 }

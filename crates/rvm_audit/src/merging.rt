@@ -82,7 +82,7 @@ fn take_turn(
 }
 
 /// The host to ask after this one took an item: itself if the item made no frame, else the first.
-fn woken(is_silent: bool, host: u8) -> u8
+pub(crate) fn woken(is_silent: bool, host: u8) -> u8
     ensures { result ≡ (if is_silent then host else 0) }
 {
     if is_silent { host } else { 0 }

@@ -1,0 +1,397 @@
+-- Going through parts: where it begins, how a turn leaves it, and where it ends.
+use Rattle.std.proofs.Common.{◌≡◌, ◌∙◌, ◌≢◌, ℕ, zero, suc, ◌+◌, ◌<◌, ◌≤◌, ◌==◌, not, Bool, true, false, if◌then◌else◌, List, [], ◌∷◌, ◌++◌, drop, get_or, set, length, length-append, length-drop, length-set, replicate, Option, None, Some, refl, sym, ap, subst, arith, inl, inr}
+use Rattle.std.specs.Prelude.{MatchOption, is_some, slice_get, ◌⊎◌}
+use Rattle.std.proofs.lemmas.Bool.{cases_eq, cases_lt, eq-eqb, ne_eqb}
+use Rattle.std.proofs.lemmas.List.{get_or-set_other, get_or-set_same, get_or_default}
+use Rattle.std.proofs.lemmas.Option.{MatchOption-at_none, MatchOption-at_some, same_Some, slice_get_read, slice_get_within}
+use Rattle.rvm_recorder.specs.declared.item.ItemRef.{ItemRef}
+use Rattle.rvm_recorder.specs.declared.item.ItemRef.TheVariants.{Entry, Rounds, Steps}
+use Rattle.rvm_recorder.specs.Entries.{PlainEntry}
+use Rattle.rvm_recorder.specs.Items.{all_of, entries_at, rounds_of, steps_in_turn}
+use Rattle.rvm_recorder.proofs.Spans.{drop_all_of, drop_at, drop_drop, next_at, next_left}
+use Rattle.rvm_protocol.specs.Pages.{put}
+use Rattle.rvm_core.specs.declared.event.Event.{Event}
+use Rattle.rvm_audit.specs.Orders.{Journals}
+use Rattle.rvm_audit.specs.Merging.{Places, key_of, noted, places_of}
+use Rattle.rvm_audit.specs.Cuts.{marked}
+use Rattle.rvm_audit.specs.Passing.{AllBlocked, EndsJournal, HasPassed, IsBlocked, IsPassage, IsPassing, ItemBlocks, ItemPasses, MayPass}
+use Rattle.rvm_audit.specs.Placed.{rounds_at, steps_at}
+use Rattle.rvm_audit.specs.declared.known.Known.{Known}
+use Rattle.rvm_audit.specs.declared.known.Passed.{Passed as Row}
+use Rattle.rvm_audit.specs.declared.part.Part.{Part}
+use Rattle.rvm_audit.specs.declared.part.Place.{Place}
+use Rattle.rvm_audit.specs.Parts.{AreOf, IsAt, entries_in, place_at, taken}
+use Rattle.rvm_audit.proofs.Commands.{AreCommands, rounds_are, steps_are}
+use Rattle.rvm_audit.proofs.Parts.{nothing_at, part_at, start}
+use Rattle.rvm_audit.proofs.Passages.{nothing_passed, pass_one, passed, spend}
+use Rattle.rvm_audit.proofs.Taken.{put_here, put_none, put_twice}
+
+-- AN ITEM
+
+module _ (j : Journals) (is_cut : ℕ → Bool) (x : ℕ) (lt : x < j.openings.count) where
+  -- commands are passed at once
+  pass_run : (xs : List PlainEntry) (es : List Event) (at : ℕ → ℕ) (p : Places) (spent : ℕ → Bool) (rest : List PlainEntry)
+      → IsPassage j is_cut at p spent → drop (at x) (j.entries x) ≡ xs ++ rest → AreCommands x xs es
+      → IsPassage j is_cut (put at x (at x + length xs)) p spent
+  pass_run [] es at p spent rest m is so =
+      subst (λ a. IsPassage j is_cut a p spent) (sym (put_none at x (at x + 0) (omega arith))) m
+  pass_run (n ∷ ns) [] at p spent rest m is so = absurd so
+  pass_run (n ∷ ns) (e ∷ es) at p spent rest m is so =
+      let c = so.0 in
+      let next = put at x (at x + 1) in
+      let one =
+      pass_one j is_cut at p spent m x lt n (next_at (j.entries x) (at x) n (ns ++ rest) is)
+      (subst (λ v. MayPass (j.openings.host x).version j.openings.count x p spent v) (sym c.event) tt) 0 p
+      (λ key. ap (λ o. noted (key_of x o) 0 p key) (sym c.silent))
+      in
+      let there = put_here at x (at x + 1) in
+      let more =
+      pass_run ns es next p spent rest one
+      (ap (λ k. drop k (j.entries x)) there ∙ sym (next_left (j.entries x) (at x) n (ns ++ rest) is)) so.1
+      in
+      subst (λ a. IsPassage j is_cut a p spent)
+      (put_twice at x (at x + 1) (next x + length ns) (at x + length (n ∷ ns)) (omega (arith, there))) more
+
+  -- the same for what the code keeps
+  abbrev pub IsPassageOf : (ℕ → ℕ) → Known → Type 0
+  IsPassageOf at k = IsPassage j is_cut at (places_of k.made) (marked k.spent.items)
+
+  pub item_passed : (at : ℕ → ℕ) (old new : Known) (item : ItemRef) (row : Row) (rest : List PlainEntry) → IsPassageOf at old
+      → drop (at x) (j.entries x) ≡ entries_at item ++ rest
+      → ItemPasses (j.openings.host x).version j.openings.count x item row old new
+      → IsPassageOf (put at x (at x + length (entries_at item))) new
+  item_passed at old new (Entry e) row rest m split t =
+      let a = put at x (at x + 1) in
+      subst (λ s. IsPassage j is_cut a (places_of new.made) (marked s.items)) (sym t.spent)
+      (pass_one j is_cut at (places_of old.made) (marked old.spent.items) m x lt e.now
+      (next_at (j.entries x) (at x) e.now rest split) t.may 0 (places_of new.made) t.made)
+  item_passed at old new (Steps s) row rest m split t =
+      subst (λ k. IsPassageOf (put at x (at x + length (steps_in_turn s.turn s.harts s.count))) k) (sym t.1)
+      (pass_run (steps_in_turn s.turn s.harts s.count) (steps_at x s.turn s.harts s.count) at (places_of old.made)
+      (marked old.spent.items) rest m split (steps_are x s.turn s.harts s.count))
+  item_passed at old new (Rounds r) row rest m split t =
+      subst (λ k. IsPassageOf (put at x (at x + length (rounds_of r))) k) (sym t.1)
+      (pass_run (rounds_of r) (rounds_at x r.turn r.harts r.steps r.drain r.count) at (places_of old.made)
+      (marked old.spent.items) rest m split (rounds_are x r.turn r.harts r.steps r.drain r.count))
+
+-- what an item that was passed leaves
+no_frame : (o : Option (List ℕ)) (b : Bool) → b ≡ not (is_some o) → b ≡ true → o ≡ None
+no_frame None b is yes = refl
+no_frame (Some bytes) b is yes = absurd cc
+
+module _ (version count x : ℕ) (old new : Known) where
+  pub as_many : (item : ItemRef) (row : Row) → ItemPasses version count x item row old new → row.entries ≡ length (entries_at item)
+  as_many (Entry e) row t = t.entries
+  as_many (Steps s) row t = t.0
+  as_many (Rounds r) row t = t.0
+
+  pub same_spent : (item : ItemRef) (row : Row) → ItemPasses version count x item row old new → new.spent ≡ old.spent
+  same_spent (Entry e) row t = t.spent
+  same_spent (Steps s) row t = ap (λ (k : Known). k.spent) t.1
+  same_spent (Rounds r) row t = ap (λ (k : Known). k.spent) t.1
+
+  pub same_made : (item : ItemRef) (row : Row) → ItemPasses version count x item row old new → row.is_silent ≡ true
+      → (key : List ℕ) → places_of new.made key ≡ places_of old.made key
+  same_made (Entry e) row t is key =
+      t.made key ∙ ap (λ o. noted (key_of x o) 0 (places_of old.made) key) (no_frame e.now.frame row.is_silent t.silent is)
+  same_made (Steps s) row t is key = ap (λ (k : Known). places_of k.made key) t.1
+  same_made (Rounds r) row t is key = ap (λ (k : Known). places_of k.made key) t.1
+
+  pub blocked_same : (item : ItemRef) → ItemBlocks version count x item old new → new ≡ old
+  blocked_same (Entry e) b = b.1
+  blocked_same (Steps s) b = absurd b
+  blocked_same (Rounds r) b = absurd b
+
+  blocked_at : (is_cut : Bool) (entries : List PlainEntry) (i : ℕ) (item : ItemRef) (rest : List PlainEntry)
+      → drop i entries ≡ entries_at item ++ rest → ItemBlocks version count x item old new
+      → IsBlocked version count x (places_of old.made) (marked old.spent.items) is_cut entries i
+  blocked_at is_cut entries i (Entry e) rest split b = inr (e.now, next_at entries i e.now rest split, b.0)
+  blocked_at is_cut entries i (Steps s) rest split b = absurd b
+  blocked_at is_cut entries i (Rounds r) rest split b = absurd b
+
+-- WHERE IT BEGINS
+
+no_marks : (n x : ℕ) → ◌≡◌ {A = Bool} (marked (replicate {A = Bool} n false) x) false
+no_marks zero x = refl
+no_marks (suc n) zero = refl
+no_marks (suc n) (suc x) = no_marks n x
+
+pub starts_passing : (parts : List Part) (cuts : List Bool) (places : List Place) (known : Known) (n : ℕ)
+    → ((key : List ℕ) → places_of known.made key ≡ None) → ◌≡◌ {A = List Bool} known.spent.items (replicate n false)
+    → length known.spent.items ≡ length parts → length places ≡ length parts → ((x : ℕ) → place_at places x ≡ start)
+    → IsPassing parts cuts places known
+starts_passing parts cuts places known n none spent spent_long long at = record {
+  long = long;
+  spent = spent_long;
+  each = λ x part here. subst (λ (k : Place). IsAt part k) (sym (at x)) (nothing_at part);
+  passage = λ j are.
+      subst (λ (v : ℕ → ℕ). IsPassage j (marked cuts) v (places_of known.made) (marked known.spent.items))
+      (λ i x. (ap (λ (k : Place). k.entries) (sym (at x))) i)
+      (nothing_passed j (marked cuts) (places_of known.made) (marked known.spent.items) none
+      (λ x. ap (λ (bs : List Bool). marked bs x) spent ∙ no_marks n x));
+}
+
+-- A TURN
+
+-- the turn of a host whose part is there, while the hosts below are blocked
+pub record PassTurn (parts : List Part) (cuts : List Bool) (places : List Place) (old : Known) (host : ℕ) (part : Part) (place : Place) : Type 0 where
+  pub passing : IsPassing parts cuts places old
+  pub lower : AllBlocked parts cuts places old host
+  pub here : slice_get parts host ≡ Some part
+  pub place_is : place ≡ place_at places host
+
+pub pass_turn_of : (parts : List Part) (cuts : List Bool) (places : List Place) (old : Known) (host : ℕ) (part : Part) (place : Place)
+    → IsPassing parts cuts places old → AllBlocked parts cuts places old host → host < length parts
+    → part ≡ get_or parts host part → place ≡ get_or places host place → PassTurn parts cuts places old host part place
+pass_turn_of parts cuts places old host part place passing lower lt part_is place_is = record {
+  passing = passing;
+  lower = lower;
+  here = slice_get_read parts (length parts) host part refl lt part_is;
+  place_is = place_is ∙ get_or_default places host place start (let long = passing.long in omega (arith, long, lt));
+}
+
+-- the next item of a part
+pub record IsNextItem (part : Part) (place : Place) (item : ItemRef) : Type 0 where
+  pub rest : List (List PlainEntry)
+  pub split : drop place.items part.items.now ≡ entries_at item ∷ rest
+
+pub next_item_is : (part : Part) (place : Place) (entries : List PlainEntry) (item : ItemRef)
+    → slice_get part.items.now place.items ≡ Some entries → entries_at item ≡ entries → IsNextItem part place item
+next_item_is part place entries item here look = record {
+  rest = drop (place.items + 1) part.items.now;
+  split =
+      drop_at part.items.now place.items entries here
+      ∙ ap (λ (xs : List PlainEntry). xs ∷ drop (place.items + 1) part.items.now) (sym look);
+}
+
+module _ (parts : List Part) (cuts : List Bool) (places : List Place) (old new : Known) (host : ℕ) (part : Part) (place : Place)
+    (turn : PassTurn parts cuts places old host part place) where
+  at_place : IsAt part place
+  at_place = subst (λ (k : Place). IsAt part k) (sym turn.place_is) (turn.passing.each host part turn.here)
+
+  there : host < length parts
+  there = slice_get_within parts host part turn.here
+
+  abbrev Blocked : Known → Part → ℕ → ℕ → Type 0
+  Blocked k q y i =
+      IsBlocked q.version (length parts) y (places_of k.made) (marked k.spent.items) (marked cuts y) (entries_in q) i
+
+  -- one host more is blocked
+  one_blocked : (k : Known) → AllBlocked parts cuts places k host → Blocked k part host place.entries
+      → AllBlocked parts cuts places k (host + 1)
+  one_blocked k lower blocks = λ x other lt at. elim (cases_lt x host) [
+    | inl below ↦ lower x other below at
+    | inr above ↦
+        (let same : host ≡ x = omega (arith, lt, above) in
+        let part_is : part ≡ other = same_Some part other (sym turn.here ∙ ap (slice_get parts) same ∙ at) in
+        subst (λ y. Blocked k other y (taken places y)) same
+        (subst (λ (q : Part). Blocked k q host (taken places host)) part_is
+        (subst (λ (p : Place). Blocked k part host p.entries) turn.place_is blocks)))
+  ]
+
+  -- THE JOURNAL IS AT ITS END
+
+  module _ (none : length part.items.now ≤ place.items) where
+    no_entries : length (entries_in part) ≤ place.entries
+    no_entries =
+        let left : length (drop place.entries (entries_in part)) ≡ 0 =
+        ap (λ (xs : List PlainEntry). length xs) (sym at_place.left ∙ ap all_of (nothing_left part.items.now place.items none))
+        in
+        omega (arith, length-drop place.entries (entries_in part), left)
+      where
+        nothing_left : {X : Type 0} (xs : List X) (i : ℕ) → length xs ≤ i → drop i xs ≡ []
+        nothing_left [] zero le = refl
+        nothing_left [] (suc i) le = refl
+        nothing_left (x ∷ xs) zero le = absurd (omega (arith, le))
+        nothing_left (x ∷ xs) (suc i) le = nothing_left xs i (omega (arith, le))
+
+    marks_more : (y : ℕ) → marked (set old.spent.items host true) y ≡ true → (marked old.spent.items y ≡ true) ⊎ (y ≡ host)
+    marks_more y is = elim (cases_eq y host) [
+      | inl same ↦ inr same
+      | inr other ↦ inl (sym (get_or-set_other old.spent.items host y true false other) ∙ is)
+    ]
+
+    pub end_passing : (next : ℕ) (is_cut : Bool) → is_cut ≡ marked cuts host → EndsJournal is_cut host old new next
+        → IsPassing parts cuts places new
+    end_passing next is_cut cut_is (inl e) = subst (λ (k : Known). IsPassing parts cuts places k) (sym e.1) turn.passing
+    end_passing next is_cut cut_is (inr e) = record {
+      long = turn.passing.long;
+      spent = ap (λ (bs : List Bool). length bs) e.2 ∙ length-set old.spent.items host true ∙ turn.passing.spent;
+      each = turn.passing.each;
+      passage = λ j are.
+          (let is_of = are.each host part turn.here in
+          let m = turn.passing.passage j are in
+          let within = m.within host (let c = are.count_is in let t = there in omega (arith, c, t)) in
+          let entries = ap (λ (xs : List PlainEntry). length xs) is_of.entries_are in
+          let at : taken places host ≡ place.entries = ap (λ (k : Place). k.entries) (sym turn.place_is) in
+          let all = no_entries in
+          subst (λ p. IsPassage j (marked cuts) (taken places) (places_of p) (marked new.spent.items)) (sym e.1)
+          (spend j (marked cuts) (taken places) (places_of old.made) (marked old.spent.items) m host (sym cut_is ∙ e.0)
+          (omega (arith, within, entries, at, all)) (marked new.spent.items)
+          (λ y is. marks_more y (ap (λ (bs : List Bool). marked bs y) (sym e.2) ∙ is))));
+    }
+
+    pub end_blocked : (next : ℕ) (is_cut : Bool) → is_cut ≡ marked cuts host → EndsJournal is_cut host old new next
+        → AllBlocked parts cuts places new next
+    end_blocked next is_cut cut_is (inl e) =
+        subst (AllBlocked parts cuts places new) (sym e.2)
+        (subst (λ (k : Known). AllBlocked parts cuts places k (host + 1)) (sym e.1)
+        (one_blocked old turn.lower (inl (no_entries, λ cut. e.0 (cut_is ∙ cut)))))
+    end_blocked next is_cut cut_is (inr e) = λ x other lt at. absurd (let n = e.3 in omega (arith, lt, n))
+
+  -- IT HAS A NEXT ITEM
+
+  module _ (item : ItemRef) (is_next : IsNextItem part place item) where
+    split : drop place.entries (entries_in part) ≡ entries_at item ++ all_of is_next.rest
+    split = sym at_place.left ∙ ap all_of is_next.split
+
+    module _ (blocks : ItemBlocks part.version (length parts) host item old new) where
+      same : new ≡ old
+      same = blocked_same part.version (length parts) host old new item blocks
+
+      pub still_passing : IsPassing parts cuts places new
+      still_passing = subst (λ (k : Known). IsPassing parts cuts places k) (sym same) turn.passing
+
+      pub one_more_blocked : AllBlocked parts cuts places new (host + 1)
+      one_more_blocked =
+          subst (λ (k : Known). AllBlocked parts cuts places k (host + 1)) (sym same)
+          (one_blocked old turn.lower
+          (blocked_at part.version (length parts) host old new (marked cuts host) (entries_in part) place.entries item
+          (all_of is_next.rest) split blocks))
+
+    module _ (row : Row) (t : ItemPasses part.version (length parts) host item row old new) where
+      size : row.entries ≡ length (entries_at item)
+      size = as_many part.version (length parts) host old new item row t
+
+      pub items_left : place.items < length part.items.now
+      items_left =
+          let l = ap (λ (xs : List (List PlainEntry)). length xs) is_next.split in
+          omega (arith, l, length-drop place.items part.items.now)
+
+      pub entries_within : place.entries + row.entries ≤ length (entries_in part)
+      entries_within =
+          let w = at_place.within in
+          let l = ap (λ (xs : List PlainEntry). length xs) split in
+          let long = length-append (entries_at item) (all_of is_next.rest) in
+          omega (arith, w, l, long, length-drop place.entries (entries_in part), size)
+
+      abbrev next : Place
+      next = record { items = place.items + 1; entries = place.entries + row.entries }
+
+      abbrev pub behind : List Place
+      behind = set places host next
+
+      own : place_at behind host ≡ next
+      own = get_or-set_same places host next start (let l = turn.passing.long in let h = there in omega (arith, l, h))
+
+      other_place : (x : ℕ) → x ≢ host → place_at behind x ≡ place_at places x
+      other_place x ne = get_or-set_other places host x next start ne
+
+      moved : (x : ℕ) → put (taken places) host (place.entries + row.entries) x ≡ taken behind x
+      moved x = elim (cases_eq x host) [
+        | inl same ↦
+            ap (λ (b : Bool). if b then place.entries + row.entries else taken places x) (eq-eqb x host same)
+            ∙ sym (ap (taken behind) same ∙ ap (λ (k : Place). k.entries) own)
+        | inr ne ↦
+            ap (λ (b : Bool). if b then place.entries + row.entries else taken places x) (ne_eqb x host ne)
+            ∙ sym (ap (λ (k : Place). k.entries) (other_place x ne))
+      ]
+
+      at_next : IsAt part next
+      at_next = record {
+        within = entries_within;
+        left =
+            ap all_of (sym (drop_drop part.items.now place.items 1) ∙ ap (drop 1) is_next.split)
+            ∙ sym (drop_all_of (entries_at item) (all_of is_next.rest)) ∙ ap (drop (length (entries_at item))) (sym split)
+            ∙ drop_drop (entries_in part) place.entries (length (entries_at item))
+            ∙ ap (λ k. drop (place.entries + k) (entries_in part)) (sym size);
+      }
+
+      at_each : (x : ℕ) (other : Part) → slice_get parts x ≡ Some other → IsAt other (place_at behind x)
+      at_each x other is = elim (cases_eq x host) [
+        | inl same ↦
+            (let part_is : part ≡ other = same_Some part other (sym turn.here ∙ ap (slice_get parts) (sym same) ∙ is) in
+            subst (λ (k : Place). IsAt other k) (sym (ap (place_at behind) same ∙ own))
+            (subst (λ (q : Part). IsAt q next) part_is at_next))
+        | inr ne ↦ subst (λ (k : Place). IsAt other k) (sym (other_place x ne)) (turn.passing.each x other is)
+      ]
+
+      passage : (j : Journals) → AreOf j parts
+          → IsPassage j (marked cuts) (taken behind) (places_of new.made) (marked new.spent.items)
+      passage j are =
+          let is_of = are.each host part turn.here in
+          let count_is = are.count_is in
+          let h = there in
+          let lt : host < j.openings.count = omega (arith, count_is, h) in
+          let at : taken places host ≡ place.entries = ap (λ (k : Place). k.entries) (sym turn.place_is) in
+          let own_split : drop (taken places host) (j.entries host) ≡ entries_at item ++ all_of is_next.rest =
+          (λ i. drop (at i) (sym is_of.entries_are i)) ∙ split
+          in
+          let passes : ItemPasses (j.openings.host host).version j.openings.count host item row old new =
+          subst (λ v. ItemPasses v j.openings.count host item row old new) is_of.version_is
+          (subst (λ c. ItemPasses part.version c host item row old new) (sym count_is) t)
+          in
+          let one =
+          item_passed j (marked cuts) host lt (taken places) old new item row (all_of is_next.rest)
+          (turn.passing.passage j are) own_split passes
+          in
+          let s = size in
+          let size_is : taken places host + length (entries_at item) ≡ place.entries + row.entries = omega (arith, s, at) in
+          subst (λ (v : ℕ → ℕ). IsPassage j (marked cuts) v (places_of new.made) (marked new.spent.items))
+          (λ i x. (ap (λ k. put (taken places) host k x) size_is ∙ moved x) i) one
+
+      pub goes_on_passing : IsPassing parts cuts behind new
+      goes_on_passing = record {
+        long = length-set places host next ∙ turn.passing.long;
+        spent =
+            ap (λ (k : Known). length k.spent.items) refl
+            ∙ spent_long (same_spent part.version (length parts) host old new item row t);
+        each = at_each;
+        passage = passage;
+      }
+        where
+          spent_long : new.spent ≡ old.spent → length new.spent.items ≡ length parts
+          spent_long is = ap (λ s. length s.items) is ∙ turn.passing.spent
+
+      -- if it made no frame, the hosts below go on being blocked
+      silent : row.is_silent ≡ true → AllBlocked parts cuts behind new host
+      silent is = λ x other lt at.
+          subst (λ (k : Place). Blocked new other x k.entries)
+          (sym (other_place x (λ same. omega (arith, same, lt))))
+          (subst (λ s. IsBlocked other.version (length parts) x (places_of new.made) (marked s.items) (marked cuts x)
+          (entries_in other) (taken places x)) (sym (same_spent part.version (length parts) host old new item row t))
+          (subst (λ (p : Places). IsBlocked other.version (length parts) x p (marked old.spent.items) (marked cuts x)
+          (entries_in other) (taken places x))
+          (λ i key. sym (same_made part.version (length parts) host old new item row t is key) i)
+          (turn.lower x other lt at)))
+
+      -- after a frame was made, the first host has the turn
+      pub lower_blocked : (b : Bool) (k : ℕ) → b ≡ row.is_silent → k ≡ (if b then host else 0)
+          → AllBlocked parts cuts behind new k
+      lower_blocked true k silent_is k_is = subst (AllBlocked parts cuts behind new) (sym k_is) (silent (sym silent_is))
+      lower_blocked false k silent_is k_is = λ x other lt at. absurd (omega (arith, lt, k_is))
+
+-- THE END
+
+-- a host of the journals is blocked, if its part is
+pub has_passed : (parts : List Part) (cuts : List Bool) (places : List Place) (known : Known) (n : ℕ)
+    → IsPassing parts cuts places known → AllBlocked parts cuts places known n → length parts ≤ n
+    → (j : Journals) → AreOf j parts → HasPassed j (marked cuts) (taken places)
+has_passed parts cuts places known n passing all le j are =
+    passed j (marked cuts) (taken places) (places_of known.made) (marked known.spent.items) (passing.passage j are) blocked
+  where
+    blocked : (x : ℕ) → x < j.openings.count
+        → IsBlocked (j.openings.host x).version j.openings.count x (places_of known.made) (marked known.spent.items)
+        (marked cuts x) (j.entries x) (taken places x)
+    blocked x lt =
+        let c = are.count_is in
+        let there : x < length parts = omega (arith, lt, c) in
+        let part = part_at parts x there in
+        let is_of = are.each x part.0 part.1 in
+        subst (λ v. IsBlocked v j.openings.count x (places_of known.made) (marked known.spent.items) (marked cuts x)
+        (j.entries x) (taken places x)) is_of.version_is
+        (subst (λ k. IsBlocked part.0.version k x (places_of known.made) (marked known.spent.items) (marked cuts x)
+        (j.entries x) (taken places x)) (sym are.count_is)
+        (subst (λ xs. IsBlocked part.0.version (length parts) x (places_of known.made) (marked known.spent.items) (marked cuts x)
+        xs (taken places x)) is_of.entries_are
+        (all x part.0 (omega (arith, there, le)) part.1)))

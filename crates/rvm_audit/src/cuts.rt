@@ -1,0 +1,33 @@
+//! What may be said of journals that were cut.
+
+ghost use Rattle.std.specs.Prelude.{◌≡◌, ◌≤◌, IfOk, false, length, true};
+ghost use Rattle.rvm_audit.specs.Audits.{histories_of};
+ghost use Rattle.rvm_audit.specs.Cuts.{AreContradicted, AreExplained};
+
+use crate::list::{parts_of, unfinished};
+use crate::passing::pass_all;
+use rvm_mem::PagedMemory;
+use rvm_recorder::Journal;
+use std::alloc::{AllocError, Global};
+
+/// Whether journals contradict one another, of which those that `cuts` marks may have lost entries at their end: then
+/// they have no order, however these went on. If they do not, all their entries stand in one sequence in which each
+/// frame that came was made before, or by an entry that may be among those that were lost.
+///
+/// It takes each journal as far as it can go. An entry that says that a frame came is passed once its maker has made
+/// the frame, or is at the end of a journal that was cut. The journals contradict one another if one of them cannot be
+/// taken to its end.
+pub fn are_contradictory<M: PagedMemory + Drop>(
+    alloc: Global,
+    journals: &[&Journal<M>],
+    cuts: &[bool],
+) -> Result<bool, AllocError>
+    requires few { length journals.now ≤ 8 }
+    requires long { length cuts.now ≡ length journals.now }
+    ensures found { IfOk result (λ found. found ≡ true → AreContradicted (histories_of journals.now) cuts.now) }
+    ensures none { IfOk result (λ found. found ≡ false → AreExplained (histories_of journals.now) cuts.now) }
+{
+    let parts = parts_of(alloc, journals)?;
+    let places = pass_all(alloc, parts.as_slice(), cuts)?;
+    Ok(unfinished(journals, places.as_slice()).is_some())
+}
