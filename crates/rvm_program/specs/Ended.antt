@@ -28,7 +28,7 @@ use Rattle.rvm_host_command.specs.declared.journal_audit.AuditText.TheVariants.{
 use Rattle.rvm_host_command.specs.declared.journal_file.JournalFile.{JournalFile}
 use Rattle.rvm_move.specs.Ended.{IsMoved, IsNotMoved}
 use Rattle.rvm_move.specs.Orders.{IsAudited, IsNotAudited}
-use Rattle.rvm_program.specs.Files.{IsApart, IsCreated, IsFile, IsFileRefusal, IsImage, IsInput, IsOpened, IsRefusedFile, IsUnread, Named, file_text}
+use Rattle.rvm_program.specs.Files.{IsApart, IsCreated, IsFile, IsFileRefusal, IsImage, IsInput, IsOpened, IsRefusedFile, IsUnread, Named, file_text, symbols_name}
 use Rattle.rvm_refusal.specs.declared.refusal.Refusal.{Refusal}
 use Rattle.rvm_command.specs.ScriptEnds.{IsScriptEnd}
 
@@ -54,22 +54,26 @@ trace_name trace = option_map (λ t. t.file) trace
 abbrev pub report_name : Option ReportArguments → Option (Bor (List ℕ))
 report_name report = option_map (λ r. r.file) report
 
--- a run of this image with this input ended so, and wrote to the files of its trace and its report, if it has them
-pub record HasRunTo (created : Named) (a : RunArguments) (image input : List ℕ) (end : Result Ended Refused)
+-- a run of this image with this input and these symbols ended so, and wrote to the files of its trace and its report, if
+-- it has them
+pub record HasRunTo (created : Named) (a : RunArguments) (image input symbols : List ℕ) (end : Result Ended Refused)
     (output : Written) : Type 0 where
   pub trace : Written
   pub report : Written
   pub trace_is : IsNamedFile created (trace_name a.trace) trace.before
   pub report_is : IsNamedFile created (report_name a.report) report.before
-  pub ended : IsRunEnd a image input end output.before output.after trace.before trace.after report.before report.after
+  pub ended : IsRunEnd a image input symbols end output.before output.after trace.before trace.after report.before report.after
 
--- `run` was given the image that it names, and the input, if it names one, and has the status that was asked for
+-- `run` was given the image that it names, and the input and the symbols, if it names some, and has the status that was
+-- asked for
 pub record RunEnded (files created : Named) (a : RunArguments) (status : ℕ) (output errors : Written) : Type 0 where
   pub image : List ℕ
   pub input : List ℕ
+  pub symbols : List ℕ
   pub image_is : IsFile (files a.guest.image.now) image
   pub input_is : IsInput files a.input input
-  pub ended : RunHasStatus a.status status (λ end. HasRunTo created a image input end output)
+  pub symbols_are : IsInput files (symbols_name a.report) symbols
+  pub ended : RunHasStatus a.status status (λ end. HasRunTo created a image input symbols end output)
       errors.before errors.after
 
 -- `asm` was given the text that it names, and wrote to the file that it names, which had other bytes

@@ -4,6 +4,9 @@ use Rattle.std.specs.Borrow.{Bor}
 use Rattle.rvm_arguments.specs.declared.arguments.Arguments.{Arguments}
 use Rattle.rvm_arguments.specs.declared.arguments.Arguments.TheVariants.{Run, Asm, Dis, Debug, Script, Move, Audit, Host, Tell, Replay, AuditJournals}
 use Rattle.rvm_arguments.specs.declared.arguments.GuestArguments.{GuestArguments}
+use Rattle.rvm_arguments.specs.declared.arguments.Report.{Report}
+use Rattle.rvm_arguments.specs.declared.arguments.Report.TheVariants.{Profile}
+use Rattle.rvm_arguments.specs.declared.arguments.ReportArguments.{ReportArguments}
 use Rattle.rvm_refusal.specs.declared.refusal.Refusal.{Refusal}
 use Rattle.rvm_refusal.specs.declared.refusal.Refusal.TheVariants as refusal
 use Rattle.rvm_refusal.specs.Refusal.{text_of}
@@ -31,6 +34,11 @@ IsCreated known held = IfSome known (λ all. held ≡ Some all)
 -- a file that was opened has all its bytes left, if those are known
 abbrev pub IsOpened : (known left : Option (List ℕ)) → Type 0
 IsOpened known left = IfSome known (λ all. left ≡ Some all)
+
+-- the file of the symbols of a report
+abbrev pub symbols_in : Report → Option (Bor (List ℕ))
+symbols_in (Profile symbols) = Some symbols
+symbols_in report = None
 
 -- these are all bytes of the file that is named; no bytes if no file is named
 abbrev pub IsInput : Named → (name : Option (Bor (List ℕ))) → (bytes : List ℕ) → Type 0
@@ -84,9 +92,19 @@ abbrev pub IsLongInput : Named → (name : Option (Bor (List ℕ))) → Refusal 
 IsLongInput files None r = ⊥
 IsLongInput files (Some name) r = IsLong (files name.now) max_size refusal.TooLong r
 
+-- the name of the file of the symbols of a report, if it has one
+abbrev pub symbols_name : Option ReportArguments → Option (Bor (List ℕ))
+symbols_name None = None
+symbols_name (Some r) = symbols_in r.report
+
+-- the symbols of a run's report are refused so, since their file has more bytes than it may have
+abbrev pub IsLongSymbols : Named → Option ReportArguments → Refusal → Type 0
+IsLongSymbols files report r = IsLongInput files (symbols_name report) r
+
 -- what a command line asks for does not begin, and is refused so, since a file has more bytes than it may have
 abbrev pub IsTooLong : Named → Arguments → Refusal → Type 0
-IsTooLong files (Run a) r = IsLongImage files a.guest r ⊎ IsLongInput files a.input r
+IsTooLong files (Run a) r =
+    IsLongImage files a.guest r ⊎ (IsLongInput files a.input r ⊎ IsLongSymbols files a.report r)
 IsTooLong files (Asm a) r = IsLong (files a.source.now) max_size refusal.TooLong r
 IsTooLong files (Dis a) r = IsLong (files a.image.now) max_size refusal.TooLong r
 IsTooLong files (Debug a) r = IsLongImage files a.guest r

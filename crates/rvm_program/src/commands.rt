@@ -13,7 +13,7 @@ ghost use Rattle.rvm_command.specs.declared.refused.Refused.{Refused};
 ghost use Rattle.rvm_command.specs.declared.run.Ended.{Ended};
 ghost use Rattle.rvm_command.specs.Ends.{RunHasStatus};
 ghost use Rattle.rvm_program.specs.Ended.{AsmEnded, AuditEnded, DebugEnded, DisEnded, HasRunTo, HostEnded, IsNamedFile, MoveEnded, RunEnded, ScriptEnded, TellEnded, ToTell, report_name, trace_name, written};
-ghost use Rattle.rvm_program.specs.Files.{IsFile, IsFileRefusal, IsFirst, IsFirstInput, IsImage, IsLong, IsLongInput, IsRefusedFile, IsUnread, file_text, max_size};
+ghost use Rattle.rvm_program.specs.Files.{IsFile, IsFileRefusal, IsFirst, IsFirstInput, IsImage, IsInput, IsLong, IsLongInput, IsLongSymbols, IsRefusedFile, IsUnread, file_text, max_size, symbols_name};
 
 use crate::files::{MAX_FILE_SIZE, NamedFiles, keep_apart, read_beginning, read_whole, refusal_of};
 use crate::images::{begin_image, check_image, read_image};
@@ -21,7 +21,7 @@ use crate::system::System;
 use either::Either;
 use rvm_arguments::{
     AsmArguments, DebugArguments, DisArguments, GuestArguments, HostArguments, MoveArguments,
-    ReportArguments, RunArguments, ScriptArguments, TellArguments, TraceArguments,
+    Report, ReportArguments, RunArguments, ScriptArguments, TellArguments, TraceArguments,
 };
 use rvm_cell::{InputQueue, read_input as read_console_input};
 use rvm_command::asm_command::asm_command;
@@ -69,8 +69,22 @@ pub(crate) fn run<M: PagedMemory + Drop, F: NamedFiles, O: Write, E: Write>(
 {
     let image = begin_image(files, alloc, &arguments.guest)?;
     let input = read_input(files, alloc, arguments)?;
+    let symbols = read_symbols(files, alloc, &arguments.report)?;
     check_image(&arguments.guest, &image)?;
-    run_read::<M, F, O, E>(alloc, files, arguments, &image, &input, output, errors)
+    let read = RunRead {
+        image: &image,
+        input: &input,
+        symbols: &symbols,
+    };
+    run_read::<M, F, O, E>(alloc, files, arguments, &read, output, errors)
+}
+
+/// What the files of a run hold that it reads.
+#[derive(Clone, Copy)]
+struct RunRead<'r> {
+    image: &'r [u8],
+    input: &'r [u8],
+    symbols: &'r [u8],
 }
 
 /// Runs a guest of which all was read. Creates or empties the files of its trace and of its report, if it has them. Fails
@@ -79,22 +93,31 @@ fn run_read<M: PagedMemory + Drop, F: NamedFiles, O: Write, E: Write>(
     alloc: Global,
     files: &F,
     arguments: &RunArguments,
-    image: &[u8],
-    input: &[u8],
+    read: &RunRead<'_>,
     output: &mut O,
     errors: &mut E,
 ) -> Result<Told, Refusal>
     ensures told { IfOk result (λ told. IfOk told (λ status. RunHasStatus arguments.now.status status
-        (λ end. HasRunTo (F.created_of files.now) arguments.now image.now input.now end
-        (written (O.contents output.old) (O.contents output.new)))
+        (λ end. HasRunTo (F.created_of files.now) arguments.now read.now.image.now read.now.input.now
+        read.now.symbols.now end (written (O.contents output.old) (O.contents output.new)))
         (E.contents errors.old) (E.contents errors.new))) }
     ensures end { IfOk result (λ told. (end : Result Ended Refused) × HasRunTo (F.created_of files.now) arguments.now
-        image.now input.now end (written (O.contents output.old) (O.contents output.new))) }
+        read.now.image.now read.now.input.now read.now.symbols.now end
+        (written (O.contents output.old) (O.contents output.new))) }
     ensures refused { IfErr result (λ r. IsFileRefusal r × (O.contents output.new ≡ O.contents output.old)
         × (E.contents errors.new ≡ E.contents errors.old)) }
 {
     let mut written = create_files(alloc, files, arguments)?;
-    Ok(run_command::<M, O, _, _, E>(alloc, arguments, image, input, output, &mut written, errors))
+    Ok(run_command::<M, O, _, _, E>(
+        alloc,
+        arguments,
+        read.image,
+        read.input,
+        read.symbols,
+        output,
+        &mut written,
+        errors,
+    ))
 }
 
 /// Creates or empties the files of the trace and of the report of a run, if it has them. Fails with a refusal if one of
@@ -168,6 +191,24 @@ fn read_input<F: NamedFiles>(
     match arguments.input {
         Some(file) => read_console(files, alloc, file, arguments.steps),
         None => Ok(Vec::new(alloc)),
+    }
+}
+
+/// All bytes of the file of the symbols of a report; none if it has no symbols.
+fn read_symbols<F: NamedFiles>(
+    files: &F,
+    alloc: Global,
+    report: &Option<ReportArguments>,
+) -> Result<Vec<u8>, Refusal>
+    ensures given { IfOk result (λ v. IsInput (F.bytes_of files.now) (symbols_name report.now) v.items) }
+    ensures refused { IfErr result (λ r. IsFileRefusal r ⊎ IsLongSymbols (F.bytes_of files.now) report.now r) }
+{
+    match report {
+        Some(ReportArguments {
+            report: Report::Profile { symbols },
+            ..
+        }) => read_whole(files, alloc, symbols),
+        _ => Ok(Vec::new(alloc)),
     }
 }
 
