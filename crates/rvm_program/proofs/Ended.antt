@@ -23,7 +23,7 @@ use Rattle.rvm_move.specs.Ended.{IsMoved, IsNotMoved, IsUntold}
 use Rattle.rvm_move.specs.Orders.{IsAudited, IsNotAudited}
 use Rattle.rvm_program.specs.Ended.{AsmEnded, AuditEnded, DebugEnded, DisEnded, HasHosted, HasRunTo, HostEnded, IsFileOrNone, IsNamedFile, MoveEnded, ReplayEnded, RunEnded, ScriptEnded, TellEnded, ToTell, Written, report_name, trace_name}
 use Rattle.rvm_command.proofs.Inputs.{ends_so}
-use Rattle.rvm_program.specs.Files.{IsApart, IsCreated, IsFile, IsFirst, IsFirstInput, IsImage, IsInput, IsOpened, Named}
+use Rattle.rvm_program.specs.Files.{IsApart, IsCreated, IsFile, IsFirst, IsFirstInput, IsImage, IsInput, IsOpened, Named, symbols_name}
 use Rattle.rvm_command.specs.ScriptEnds.{IsScriptEnd}
 
 -- neither 0 nor 1
@@ -67,17 +67,17 @@ whole_input files None steps given none = ([], refl, inl none)
 whole_input files (Some name) steps given is = whole_file (files name.now) steps given is
 
 -- how a run ended that was given enough, so it ends with all of its input
-ends_with : (created : Named) (a : RunArguments) (image begun given input : List ℕ) (output : Written)
+ends_with : (created : Named) (a : RunArguments) (image begun given input symbols : List ℕ) (output : Written)
     (end : Result Ended Refused) → begun ≡ given → IsEnough a.steps given input
-    → HasRunTo created a image begun end output → HasRunTo created a image input end output
-ends_with created a image begun given input output end same (inl all) is =
-    subst (λ i. HasRunTo created a image i end output) (same ∙ all) is
-ends_with created a image begun given input output end same (inr part) is = record {
+    → HasRunTo created a image begun symbols end output → HasRunTo created a image input symbols end output
+ends_with created a image begun given input symbols output end same (inl all) is =
+    subst (λ i. HasRunTo created a image i symbols end output) (same ∙ all) is
+ends_with created a image begun given input symbols output end same (inr part) is = record {
   trace = is.trace;
   report = is.report;
   trace_is = is.trace_is;
   report_is = is.report_is;
-  ended = ends_so a image begun input end output.before output.after is.trace.before is.trace.after
+  ended = ends_so a image begun input symbols end output.before output.after is.trace.before is.trace.after
       is.report.before is.report.after (same ∙ part) is.ended;
 }
 
@@ -88,32 +88,32 @@ ended_so : (asked : StatusOf) (status : ℕ) (errors : Written) (P Q : Result En
 ended_so asked status errors P Q f (inl (e, is, end, told)) = inl (e, is, f (Ok e) end, told)
 ended_so asked status errors P Q f (inr (r, is, end, told)) = inr (r, is, f (Err r) end, told)
 
-module _ (created : Named) (a : RunArguments) (image input : List ℕ) (output trace report : Written)
+module _ (created : Named) (a : RunArguments) (image input symbols : List ℕ) (output trace report : Written)
     (trace_is : IsNamedFile created (trace_name a.trace) trace.before)
     (report_is : IsNamedFile created (report_name a.report) report.before) where
   -- how a run ended that wrote to these files
   abbrev pub EndsWith : Result Ended Refused → Type 0
   EndsWith end =
-      IsRunEnd a image input end output.before output.after trace.before trace.after report.before report.after
+      IsRunEnd a image input symbols end output.before output.after trace.before trace.after report.before report.after
 
   -- a run that wrote to the files of its trace and its report, if it has them
-  ends_in : (end : Result Ended Refused) → EndsWith end → HasRunTo created a image input end output
+  ends_in : (end : Result Ended Refused) → EndsWith end → HasRunTo created a image input symbols end output
   ends_in end is =
       record { trace = trace; report = report; trace_is = trace_is; report_is = report_is; ended = is }
 
   -- the same of its end
   pub end_written : (end : Result Ended Refused) × EndsWith end
-      → (end : Result Ended Refused) × HasRunTo created a image input end output
+      → (end : Result Ended Refused) × HasRunTo created a image input symbols end output
   end_written end = (end.0, ends_in end.0 end.1)
 
   -- the same of its status
   pub status_written : {F : Type 0} (errors : Written) (r : Result ℕ F)
       → IfOk r (λ status. RunHasStatus a.status status EndsWith errors.before errors.after)
-      → IfOk r (λ status. RunHasStatus a.status status (λ end. HasRunTo created a image input end output)
+      → IfOk r (λ status. RunHasStatus a.status status (λ end. HasRunTo created a image input symbols end output)
       errors.before errors.after)
   status_written errors (Err e) told = tt
   status_written errors (Ok status) told =
-      ended_so a.status status errors EndsWith (λ end. HasRunTo created a image input end output) ends_in told
+      ended_so a.status status errors EndsWith (λ end. HasRunTo created a image input symbols end output) ends_in told
 
 -- what a call returned, if it began, has whatever follows from what it has
 pub begun_so : {T E : Type 0} (r : Result T E) (P Q : T → Type 0) → ((t : T) → P t → Q t) → IfOk r P → IfOk r Q
@@ -122,21 +122,24 @@ begun_so (Err e) P Q f is = tt
 
 module _ {F : Type 0} (files : Named) (errors : Written) where
   -- `run` was given the image of its file, and of its input the bytes that its turns can take
-  pub run_ended : (created : Named) (a : RunArguments) (image bytes begun given : List ℕ) (output : Written) (r : Result ℕ F)
-      → image ≡ bytes → begun ≡ given → IsFile (files a.guest.image.now) bytes → IsFirstInput files a.input a.steps given
-      → IfOk r (λ status. RunHasStatus a.status status (λ end. HasRunTo created a image begun end output)
+  pub run_ended : (created : Named) (a : RunArguments) (image bytes begun given symbols names : List ℕ) (output : Written) (r : Result ℕ F)
+      → image ≡ bytes → begun ≡ given → symbols ≡ names → IsFile (files a.guest.image.now) bytes → IsFirstInput files a.input a.steps given
+      → IsInput files (symbols_name a.report) names
+      → IfOk r (λ status. RunHasStatus a.status status (λ end. HasRunTo created a image begun symbols end output)
       errors.before errors.after)
       → IfOk r (λ status. RunEnded files created a status output errors)
-  run_ended created a image bytes begun given output (Err e) same begun_same is given_is ended = tt
-  run_ended created a image bytes begun given output (Ok status) same begun_same is given_is ended =
+  run_ended created a image bytes begun given symbols names output (Err e) same begun_same names_same is given_is names_are ended = tt
+  run_ended created a image bytes begun given symbols names output (Ok status) same begun_same names_same is given_is names_are ended =
       let whole = whole_input files a.input a.steps given given_is in record {
         image = image;
         input = whole.0;
+        symbols = symbols;
         image_is = subst (IsFile (files a.guest.image.now)) (sym same) is;
         input_is = whole.1;
-        ended = ended_so a.status status errors (λ end. HasRunTo created a image begun end output)
-            (λ end. HasRunTo created a image whole.0 end output)
-            (λ end. ends_with created a image begun given whole.0 output end begun_same whole.2) ended;
+        symbols_are = subst (IsInput files (symbols_name a.report)) (sym names_same) names_are;
+        ended = ended_so a.status status errors (λ end. HasRunTo created a image begun symbols end output)
+            (λ end. HasRunTo created a image whole.0 symbols end output)
+            (λ end. ends_with created a image begun given whole.0 symbols output end begun_same whole.2) ended;
       }
 
   -- `asm` was given the text of its file, and wrote to its output file
@@ -249,22 +252,25 @@ move_ended files output errors image bytes a (Ok status) same is done failed = r
 
 -- what the same commands were to report if a write to the errors failed
 module _ {F : Type 0} (files : Named) where
-  pub run_untold : (created : Named) (a : RunArguments) (image bytes begun given : List ℕ) (output : Written) (r : Result ℕ F)
-      → image ≡ bytes → begun ≡ given → IsFile (files a.guest.image.now) bytes → IsFirstInput files a.input a.steps given
-      → (end : Result Ended Refused) × HasRunTo created a image begun end output
+  pub run_untold : (created : Named) (a : RunArguments) (image bytes begun given symbols names : List ℕ) (output : Written) (r : Result ℕ F)
+      → image ≡ bytes → begun ≡ given → symbols ≡ names → IsFile (files a.guest.image.now) bytes → IsFirstInput files a.input a.steps given
+      → IsInput files (symbols_name a.report) names
+      → (end : Result Ended Refused) × HasRunTo created a image begun symbols end output
       → OnErr r (ToTell (λ status errors. RunEnded files created a status output errors))
-  run_untold created a image bytes begun given output (Ok s) same begun_same is given_is end = tt
-  run_untold created a image bytes begun given output (Err e) same begun_same is given_is end =
+  run_untold created a image bytes begun given symbols names output (Ok s) same begun_same names_same is given_is names_are end = tt
+  run_untold created a image bytes begun given symbols names output (Err e) same begun_same names_same is given_is names_are end =
       let whole = whole_input files a.input a.steps given given_is in
-      let t = run_to_tell a.status (λ e. HasRunTo created a image whole.0 e output)
-      (end.0, ends_with created a image begun given whole.0 output end.0 begun_same whole.2 end.1) in (
+      let t = run_to_tell a.status (λ e. HasRunTo created a image whole.0 symbols e output)
+      (end.0, ends_with created a image begun given whole.0 symbols output end.0 begun_same whole.2 end.1) in (
         t.0,
         t.1,
         record {
           image = image;
           input = whole.0;
+          symbols = symbols;
           image_is = subst (IsFile (files a.guest.image.now)) (sym same) is;
           input_is = whole.1;
+          symbols_are = subst (IsInput files (symbols_name a.report)) (sym names_same) names_are;
           ended = t.2;
         },
       )

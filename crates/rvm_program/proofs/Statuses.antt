@@ -127,7 +127,7 @@ audited files a n output errors (inr no) = let it : suc (suc n) ≡ 1 = no.0 in 
 more : (files created : Named) (a : Arguments) (n : ℕ) (script : Option (List ℕ)) (output errors : Written)
     → HasEnded files created a (suc (suc n)) script output errors → IsAskedFor a (suc (suc n))
 more files created (Run a) n script output errors e =
-    run_ended a (suc (suc n)) (λ end. HasRunTo created a e.image e.input end output) errors.before errors.after
+    run_ended a (suc (suc n)) (λ end. HasRunTo created a e.image e.input e.symbols end output) errors.before errors.after
     e.ended
 more files created (Asm a) n script output errors e = absurd e.ended
 more files created (Dis a) n script output errors e = absurd e.ended

@@ -3,7 +3,7 @@
 use rvm_board::BoardEvent;
 use rvm_cell::EventLog;
 use rvm_frame::Frame;
-use rvm_journal::{Header, JournalWriter};
+use rvm_journal::{Header, JournalWriter, is_whole};
 use rvm_message::Command;
 use rvm_refusal::LinkFault;
 use std::alloc::Global;
@@ -16,6 +16,7 @@ a231a8889b8ddd9a journal 1 host 1 of 3 process 7 world 0 without guest
 616c2ca57023329f B drain 256
 b9def2473407a9f4 came 090001030000000000000000000000
 0308d70be207381c turns 0 2 3
+e3876810b6307445 end
 ";
 
 /// Keeps events in a journal that is written to `file`: 128 turns of two harts, told in two parts, and no turns after
@@ -40,7 +41,7 @@ fn keep_events(alloc: Global, file: &mut [u8]) -> Result<(), LinkFault> {
 
 #[test]
 fn each_event_has_a_line(rt: HostRuntime) -> Result<(), Fail> {
-    let mut file = [0u8; 213];
+    let mut file = [0u8; 234];
     keep_events(rt.alloc(), file.as_mut_slice())?;
     assert!(rt; file.as_slice() == JOURNAL.as_bytes());
     Ok(())
@@ -50,7 +51,19 @@ fn each_event_has_a_line(rt: HostRuntime) -> Result<(), Fail> {
 fn a_journal_ends_with_the_last_line_that_fits(rt: HostRuntime) -> Result<(), Fail> {
     let mut file = [0u8; 212];
     assert!(rt; keep_events(rt.alloc(), file.as_mut_slice()) == Err(LinkFault));
-    let whole = JOURNAL.len() - 29;
+    let whole = JOURNAL.len() - 50;
     assert!(rt; file.starts_with(&JOURNAL.as_bytes()[..whole]));
+    Ok(())
+}
+
+#[test]
+fn a_journal_whose_end_does_not_fit_is_cut_off(rt: HostRuntime) -> Result<(), Fail> {
+    let mut file = [0u8; 234];
+    keep_events(rt.alloc(), file.as_mut_slice())?;
+    assert!(rt; is_whole(file.as_slice()));
+    let mut file = [0u8; 213];
+    assert!(rt; keep_events(rt.alloc(), file.as_mut_slice()) == Err(LinkFault));
+    assert!(rt; file.as_slice() == &JOURNAL.as_bytes()[..213]);
+    assert!(rt; !is_whole(file.as_slice()));
     Ok(())
 }

@@ -23,10 +23,12 @@ returns-clause-ended g c =
     (image_limit c.args.arguments.now.guest) c.in_ok-image.ensures.bytes few in
     begun_so c.run_read.result
     (λ told. IfOk told (λ status. RunHasStatus a.status status
-    (λ end. HasRunTo created a c.deref-2.result.now c.deref-3.result.now end output) errors.before errors.after))
+    (λ end. HasRunTo created a c.deref-2.result.now c.deref-3.result.now c.deref-4.result.now end output) errors.before errors.after))
     (λ told. IfOk told (λ status. RunEnded files created a status output errors))
     (λ told ended. run_ended files errors created a c.deref-2.result.now c.in_ok-image.image.items c.deref-3.result.now
-    c.in_ok-input.input.items output told c.deref-2.ensures.value c.deref-3.ensures.value is c.in_ok-input.ensures.given ended)
+    c.in_ok-input.input.items c.deref-4.result.now c.in_ok-symbols.symbols.items output told
+    c.deref-2.ensures.value c.deref-3.ensures.value c.deref-4.ensures.value is c.in_ok-input.ensures.given
+    c.in_ok-symbols.ensures.given ended)
     c.run_read.ensures.told
 
 pub returns-clause-untold : goal.returns-clause-untold
@@ -39,8 +41,10 @@ returns-clause-untold g c =
     let is = whole (g.F.NamedFiles.bytes_of c.args.files.now c.args.arguments.now.guest.image.now) c.in_ok-image.image.items
     (image_limit c.args.arguments.now.guest) c.in_ok-image.ensures.bytes few in
     begun_so c.run_read.result
-    (λ told. (end : Result Ended Refused) × HasRunTo created a c.deref-2.result.now c.deref-3.result.now end output)
+    (λ told. (end : Result Ended Refused) × HasRunTo created a c.deref-2.result.now c.deref-3.result.now c.deref-4.result.now end output)
     (λ told. OnErr told (ToTell (λ status errors. RunEnded files created a status output errors)))
     (λ told end. run_untold files created a c.deref-2.result.now c.in_ok-image.image.items c.deref-3.result.now
-    c.in_ok-input.input.items output told c.deref-2.ensures.value c.deref-3.ensures.value is c.in_ok-input.ensures.given end)
+    c.in_ok-input.input.items c.deref-4.result.now c.in_ok-symbols.symbols.items output told
+    c.deref-2.ensures.value c.deref-3.ensures.value c.deref-4.ensures.value is c.in_ok-input.ensures.given
+    c.in_ok-symbols.ensures.given end)
     c.run_read.ensures.end
