@@ -95,16 +95,21 @@ pub struct ReportArguments<'a> {
     /// The file that gets the report.
     pub file: &'a str,
     /// What is reported.
-    pub report: Report,
+    pub report: Report<'a>,
 }
 
 /// What is reported of a run.
 #[derive(Clone, Copy, Debug, PartialEq, Eq)]
-pub enum Report {
+pub enum Report<'a> {
     /// The words of RAM in a range: a line of eight hexadecimal digits for each.
     Signature(WordRange),
     /// How often each word of the image ran: the lines that `rvmove dis` lists, each after a number.
     Coverage,
+    /// How many steps each symbol took: a line for each.
+    Profile {
+        /// The file of the symbols: the lines of `nm -n`.
+        symbols: &'a str,
+    },
 }
 
 /// The words of a range of addresses.
@@ -227,6 +232,10 @@ pub struct ReplayArguments<'a> {
     pub journal: &'a str,
     /// The file of the image of the guest with which the host began, if it began with one.
     pub image: Option<&'a str>,
+    /// The most events that the host does again, if there is a limit.
+    pub until: Option<u32>,
+    /// The file of an extended session of the debugger, which then has the guest, if there is one; `-` is standard input.
+    pub script: Option<&'a str>,
 }
 
 /// The arguments of `rvmove audit-journals`.

@@ -12,7 +12,7 @@ use Rattle.rvm_arguments.specs.declared.arguments.HostArguments.{HostArguments}
 use Rattle.rvm_arguments.specs.declared.arguments.MoveArguments.{MoveArguments}
 use Rattle.rvm_arguments.specs.declared.arguments.ReplayArguments.{ReplayArguments}
 use Rattle.rvm_arguments.specs.declared.arguments.Report.{Report}
-use Rattle.rvm_arguments.specs.declared.arguments.Report.TheVariants.{Coverage, Signature}
+use Rattle.rvm_arguments.specs.declared.arguments.Report.TheVariants.{Coverage, Profile, Signature}
 use Rattle.rvm_arguments.specs.declared.arguments.ReportArguments.{ReportArguments}
 use Rattle.rvm_arguments.specs.declared.arguments.RunArguments.{RunArguments}
 use Rattle.rvm_arguments.specs.declared.arguments.ScriptArguments.{ScriptArguments}
@@ -91,13 +91,19 @@ pub record IsSignature (pages : ℕ) (given : Option (List Text)) (file : Text) 
 abbrev pub IsReportTo : (pages : ℕ) → List Row → (file : Text) → Report → Type 0
 IsReportTo pages rows file (Signature range) =
     IsSignature pages (all_of (codes "signature") rows) file range × (first_of (codes "coverage") rows ≡ None)
+    × (first_of (codes "profile") rows ≡ None)
 IsReportTo pages rows file Coverage =
     (first_of (codes "coverage") rows ≡ Some file) × (all_of (codes "signature") rows ≡ None)
+    × (first_of (codes "profile") rows ≡ None)
+IsReportTo pages rows file (Profile symbols) =
+    (first_of (codes "profile") rows ≡ Some file) × (first_of (codes "symbols") rows ≡ Some symbols.now)
+    × (all_of (codes "signature") rows ≡ None) × (first_of (codes "coverage") rows ≡ None)
 
 -- there is a report if and only if one was asked for
 abbrev pub IsReport : (pages : ℕ) → List Row → Option ReportArguments → Type 0
 IsReport pages rows None =
     (all_of (codes "signature") rows ≡ None) × (first_of (codes "coverage") rows ≡ None)
+    × (first_of (codes "profile") rows ≡ None)
 IsReport pages rows (Some r) = IsReportTo pages rows r.file.now r.report
 
 -- a guest, its input, its turns, what the status tells, what is looked at while it runs, and what is reported of it
@@ -157,10 +163,13 @@ pub record IsTell (rows : List Row) (tell : TellArguments) : Type 0 where
   pub control : first_of (codes "socket") rows ≡ Some tell.control.now
   pub line : first_of (codes "line") rows ≡ option_map (λ s. s.now) tell.line
 
--- the journal of a host, and the image with which the host began, if one is named
+-- the journal of a host, the image with which the host began, if one is named, the most events that it does again, and
+-- the session of a debugger
 pub record IsReplay (rows : List Row) (asked : ReplayArguments) : Type 0 where
   pub journal : first_of (codes "journal") rows ≡ Some asked.journal.now
   pub image : first_of (codes "image") rows ≡ option_map (λ s. s.now) asked.image
+  pub until : IsOptionalNumber (first_of (codes "until") rows) asked.until
+  pub script : first_of (codes "script") rows ≡ option_map (λ s. s.now) asked.script
 
 -- the journals of a world's hosts, the image of the guest that moves between them, and whether the order is written
 pub record IsAuditJournals (rows : List Row) (asked : AuditJournalsArguments) : Type 0 where

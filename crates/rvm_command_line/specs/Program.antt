@@ -91,9 +91,14 @@ with_trace command =
 abbrev pub signature : Rule
 signature = record (new_rule (codes "signature")) { long = Some (codes "signature"); value_names = 3 }
 
+-- a command that takes the words of a profile
+abbrev pub with_profile : App → App
+with_profile command = with_rule (with_rule command (option (codes "profile"))) (option (codes "symbols"))
+
 -- a command that takes the words of a report
 abbrev pub with_report : App → App
-with_report command = with_rule (with_rule command signature) (option (codes "coverage"))
+with_report command =
+    with_profile (with_rule (with_rule command signature) (option (codes "coverage")))
 
 -- a command that takes the words that say what is looked at while the guest runs
 abbrev pub with_watch : App → App
@@ -169,9 +174,15 @@ host =
 abbrev pub tell : App
 tell = with_rule (with_rule (new_app (codes "tell")) (needed (codes "socket"))) (allowed (codes "line"))
 
+-- a command that takes the words that say how far a journal is replayed, and what is asked of its guest then
+abbrev pub with_replay : App → App
+with_replay command =
+    with_rule (with_rule command (bounded (codes "until") 0 4294967295)) (option (codes "script"))
+
 -- the command that does again what a journal tells
 abbrev pub replay : App
-replay = with_rule (with_rule (new_app (codes "replay")) (needed (codes "journal"))) (option (codes "image"))
+replay =
+    with_replay (with_rule (with_rule (new_app (codes "replay")) (needed (codes "journal"))) (option (codes "image")))
 
 -- one or more words, as many as there are
 abbrev pub several : Text → Rule

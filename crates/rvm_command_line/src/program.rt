@@ -7,7 +7,7 @@ ghost use Rattle.clap.specs.Walk.{rule_of};
 ghost use Rattle.clap.specs.Words.{kind_of};
 ghost use Rattle.clap.specs.declared.builder.command.Command.TheViews.{out-Command as fields_of};
 ghost use Rattle.clap.specs.declared.error.kind.ErrorKind.TheVariants as kind;
-ghost use Rattle.rvm_command_line.specs.Program.{allowed, asm, audit, audit_journals, bounded, debug, dis, flag, host, move, needed, needed_option, number, option, program, replay, run, script, several, signature, tell, top, with_addresses, with_board, with_command, with_default, with_explain, with_guest, with_hosting, with_journal, with_move, with_name, with_policy, with_report, with_status, with_trace, with_turns, with_verdict, with_watch, with_world};
+ghost use Rattle.rvm_command_line.specs.Program.{allowed, asm, audit, audit_journals, bounded, debug, dis, flag, host, move, needed, needed_option, number, option, program, replay, run, script, several, signature, tell, top, with_addresses, with_board, with_command, with_default, with_explain, with_guest, with_hosting, with_journal, with_move, with_name, with_policy, with_profile, with_replay, with_report, with_status, with_trace, with_turns, with_verdict, with_watch, with_world};
 
 use clap::builder::ValueParser;
 use clap::{Arg, ArgAction, Command, Error};
@@ -31,7 +31,9 @@ With --trace the file has a line for each step: its turn, its hart, the instruct
 With --signature the file has, after the last turn, eight hexadecimal digits a line for each word of RAM from
 ADDR on. ADDR and LEN are decimal, or hexadecimal after 0x, and multiples of 4; all words must lie in RAM.
 With --coverage the file has, after the last turn, the lines of `rvmove dis`, each after the number of steps that
-ran its instruction. --signature and --coverage exclude each other.
+ran its instruction. With --profile the file has, after the last turn, a line for each line of the file of
+--symbols, which is what `nm -n` prints: how many steps the symbol took, and its name; `sort -rn` puts the
+costliest first. --signature, --coverage and --profile exclude one another.
 
 The status:      halted 0  halted S  steps spent  fault  refused
                  0         0         0            0      1
@@ -143,7 +145,12 @@ Example: rvmove replay a.journal --image hello.elf
 
 JOURNAL is what `rvmove host --journal` wrote. The host is made anew, and does again what each line tells;
 standard output has what the guest sent while it was there, standard error `replayed N events`. A line that
-was changed is told, and ends the replay. A host that began without a guest has no IMAGE.";
+was changed is told, and ends the replay. A host that began without a guest has no IMAGE.
+
+With --until the host does no more than the first N events, and no line behind them is looked at. With --script
+the guest that is then at the host is handed to the debugger: standard output has the answers to the lines of
+FILE, as `rvmove debug --extended` answers them, and nothing of what the guest sent before. FILE is - for
+standard input.";
 
 /// The text below the help of `audit-journals`.
 const AUDIT_JOURNALS_HELP: &str = "\
@@ -546,11 +553,42 @@ fn report_command<'a>(command: Command<'a>, alloc: Global) -> Result<Command<'a>
         → IfOk result (λ c. (fields_of c).has_globals ≡ false) }
     ensures memory { IfErr result (λ e. kind_of e ≡ kind.OutOfMemory) }
 {
+    let command = command
+        .arg(signature_option(alloc))?
+        .arg(coverage_option(alloc))?;
+    profile_command(command, alloc)
+}
+
+/// Adds to a command the words of a profile.
+fn profile_command<'a>(command: Command<'a>, alloc: Global) -> Result<Command<'a>, Error>
+    ensures app { IfOk result (λ c. app_of c ≡ with_profile (app_of command.entry)) }
+    ensures local { (fields_of command.entry).has_globals ≡ false
+        → IfOk result (λ c. (fields_of c).has_globals ≡ false) }
+    ensures memory { IfErr result (λ e. kind_of e ≡ kind.OutOfMemory) }
+{
     Ok(
         command
-            .arg(signature_option(alloc))?
-            .arg(coverage_option(alloc))?,
+            .arg(profile_option(alloc))?
+            .arg(symbols_option(alloc))?,
     )
+}
+
+/// The option `--profile`: the file that gets how many steps each symbol took.
+fn profile_option<'a>(alloc: Global) -> Arg<'a>
+    ensures rule { rule_of result ≡ option (codes "profile") }
+    ensures local { result.global ≡ false }
+{
+    let help = "The file that gets how many steps each symbol took, at the end; wants --symbols";
+    option(alloc, "profile", "FILE", help)
+}
+
+/// The option `--symbols`: the file of the symbols of a profile.
+fn symbols_option<'a>(alloc: Global) -> Arg<'a>
+    ensures rule { rule_of result ≡ option (codes "symbols") }
+    ensures local { result.global ≡ false }
+{
+    let help = "The file of the symbols: what nm -n prints of the image";
+    option(alloc, "symbols", "FILE", help)
 }
 
 /// The option `--coverage`: the file that gets how often each word of the image ran.
@@ -885,20 +923,49 @@ fn replay_command<'a>(alloc: Global) -> Result<Command<'a>, Error>
     ensures local { IfOk result (λ c. (fields_of c).has_globals ≡ false) }
     ensures memory { IfErr result (λ e. kind_of e ≡ kind.OutOfMemory) }
 {
+    let command = Command::new(alloc, "replay")
+        .about("Does again what the journal of a host tells, and writes what the guest sent there")
+        .after_help(REPLAY_HELP)
+        .arg(needed(alloc, "journal", "JOURNAL", "The file of the journal"))?
+        .arg(option(
+            alloc,
+            "image",
+            "IMAGE",
+            "The image of the guest with which the host began",
+        ))?;
+    replay_options(command, alloc)
+}
+
+/// Adds to a command the words that say how far a journal is replayed, and what is asked of its guest then.
+fn replay_options<'a>(command: Command<'a>, alloc: Global) -> Result<Command<'a>, Error>
+    ensures app { IfOk result (λ c. app_of c ≡ with_replay (app_of command.entry)) }
+    ensures local { (fields_of command.entry).has_globals ≡ false
+        → IfOk result (λ c. (fields_of c).has_globals ≡ false) }
+    ensures memory { IfErr result (λ e. kind_of e ≡ kind.OutOfMemory) }
+{
     Ok(
-        Command::new(alloc, "replay")
-            .about(
-                "Does again what the journal of a host tells, and writes what the guest sent there",
-            )
-            .after_help(REPLAY_HELP)
-            .arg(needed(alloc, "journal", "JOURNAL", "The file of the journal"))?
-            .arg(option(
-                alloc,
-                "image",
-                "IMAGE",
-                "The image of the guest with which the host began",
-            ))?,
+        command
+            .arg(until_option(alloc))?
+            .arg(session_option(alloc))?,
     )
+}
+
+/// The option `--until` of `replay`: the most events that are done.
+fn until_option<'a>(alloc: Global) -> Arg<'a>
+    ensures rule { rule_of result ≡ bounded (codes "until") 0 4294967295 }
+    ensures local { result.global ≡ false }
+{
+    let help = "How many events of the journal are done at most, 0 to 4294967295";
+    bounded(alloc, "until", "N", 0, u32::MAX, help)
+}
+
+/// The option `--script` of `replay`: the file of the debugger's session.
+fn session_option<'a>(alloc: Global) -> Arg<'a>
+    ensures rule { rule_of result ≡ option (codes "script") }
+    ensures local { result.global ≡ false }
+{
+    let help = "The lines of the debugger that are answered then; - is standard input";
+    option(alloc, "script", "FILE", help)
 }
 
 /// The command `audit-journals`, with the words that it takes.

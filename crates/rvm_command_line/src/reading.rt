@@ -1,6 +1,6 @@
 //! Reads the words of a command line as arguments.
 
-ghost use Rattle.std.specs.Prelude.{◌≡◌, ◌≤◌, ◌&&◌, nat_le, true, if◌then◌else◌, [], ◌∷◌, Some, IfErr, IfOk, IfSome, codes, map, option_map};
+ghost use Rattle.std.specs.Prelude.{◌≡◌, ◌≤◌, ◌&&◌, nat_le, true, if◌then◌else◌, [], ◌∷◌, Some, IfErr, IfOk, IfSome, None, codes, map, option_map};
 ghost use Rattle.clap.specs.Faults.{fault_of};
 ghost use Rattle.clap.specs.Kinds.{HasKind};
 ghost use Rattle.clap.specs.Matches.{found_of};
@@ -177,29 +177,62 @@ fn read_run<'a>(run: &ArgMatches<'a>) -> Result<Arguments<'a>, &'static str>
 }
 
 /// What is reported of a run with this many pages of RAM. Fails with a text if a word of a report is not what it must
-/// be, if its file is one that the run reads or that gets its trace, or if two reports are asked for.
+/// be, if its file is one that the run reads or that gets its trace, or if several reports are asked for.
 fn read_report<'a>(
     run: &ArgMatches<'a>,
     pages: u32,
 ) -> Result<Option<ReportArguments<'a>>, &'static str>
     ensures { IfOk result (IsReport pages (rows_of (found_of run.now))) }
 {
-    match (texts(run, "signature"), text(run, "coverage")) {
-        (None, None) => Ok(None),
-        (Some(words), None) => {
+    match (
+        texts(run, "signature"),
+        text(run, "coverage"),
+        text(run, "profile"),
+    ) {
+        (None, None, None) => read_no_report(run),
+        (Some(words), None, None) => {
             let (file, range) = read_signature(run, words, pages)?;
             let report = Report::Signature(range);
             Ok(Some(ReportArguments { file, report }))
         }
-        (None, Some(file)) => {
+        (None, Some(file), None) => {
             if is_taken(run, file) {
                 return Err("the file of --coverage is one that is read, or that of --trace");
             }
             let report = Report::Coverage;
             Ok(Some(ReportArguments { file, report }))
         }
-        (Some(_), Some(_)) => Err("--signature and --coverage exclude each other"),
+        (None, None, Some(file)) => {
+            let symbols = read_symbols(run, file)?;
+            let report = Report::Profile { symbols };
+            Ok(Some(ReportArguments { file, report }))
+        }
+        _ => Err("--signature, --coverage and --profile exclude one another"),
     }
+}
+
+/// That nothing is reported. Fails with a text if symbols are given, for which no profile is asked for.
+fn read_no_report<'a>(run: &ArgMatches<'a>) -> Result<Option<ReportArguments<'a>>, &'static str>
+    ensures { IfOk result (λ report. report ≡ None) }
+{
+    match text(run, "symbols") {
+        None => Ok(None),
+        Some(_) => Err("--symbols wants --profile"),
+    }
+}
+
+/// The file of the symbols of a profile that goes to `file`. Fails with a text if none is named, or if the run reads
+/// `file`, or writes its trace there.
+fn read_symbols<'a>(run: &ArgMatches<'a>, file: &str) -> Result<&'a str, &'static str>
+    ensures { IfOk result (λ symbols. first_of (codes "symbols") (rows_of (found_of run.now)) ≡ Some symbols.now) }
+{
+    let Some(symbols) = text(run, "symbols") else {
+        return Err("--profile wants --symbols");
+    };
+    if is_taken(run, file) || symbols == file {
+        return Err("the file of --profile is one that is read, or that of --trace");
+    }
+    Ok(symbols)
 }
 
 /// The file of a signature, and its words, of a run with this many pages of RAM. Fails with a text if one of its three
@@ -524,9 +557,14 @@ fn read_replay<'a>(replay: &ArgMatches<'a>) -> Result<ReplayArguments<'a>, &'sta
     let Some(journal) = text(replay, "journal") else {
         return Err("JOURNAL is missing");
     };
+    let Some(until) = optional_number(replay, "until", 0, u32::MAX) else {
+        return Err("--until takes a decimal number from 0 to 4294967295");
+    };
     Ok(ReplayArguments {
         journal,
         image: text(replay, "image"),
+        until,
+        script: text(replay, "script"),
     })
 }
 
