@@ -1,12 +1,11 @@
 //! The words that the program takes, as they are described to `clap`.
 
 ghost use Rattle.std.specs.Prelude.{◌≡◌, false, codes, IfErr, IfOk};
-ghost use Rattle.std.specs.Result.{IsOkAnd};
-ghost use Rattle.clap.specs.Simple.{app_of};
-ghost use Rattle.clap.specs.Walk.{rule_of};
+ghost use Rattle.clap.specs.Simple.{App, new_app, with_rule, with_subcommand};
+ghost use Rattle.clap.specs.Walk.{Rule, rule_of};
 ghost use Rattle.clap.specs.Words.{kind_of};
-ghost use Rattle.clap.specs.declared.builder.command.Command.TheViews.{out-Command as fields_of};
 ghost use Rattle.clap.specs.declared.error.kind.ErrorKind.TheVariants as kind;
+ghost use Rattle.rvm_command_line.specs.Made.{IsMade};
 ghost use Rattle.rvm_command_line.specs.Program.{allowed, asm, audit, audit_journals, bounded, debug, dis, flag, host, move, needed, needed_option, number, option, program, replay, run, script, several, signature, tell, top, with_addresses, with_board, with_command, with_default, with_explain, with_guest, with_hosting, with_journal, with_move, with_name, with_policy, with_profile, with_replay, with_report, with_status, with_trace, with_turns, with_verdict, with_watch, with_world};
 
 use clap::builder::ValueParser;
@@ -162,62 +161,66 @@ then one order of all events is looked for, in which each frame that came had be
 Standard output has a line for each host and one for all; with --order it has the events in that order, as a
 script that `rvmove script` takes.
 
-The status is 0 if there is such an order, 1 if there is none or if a journal is refused, and 2 for a fault
-of the command line.";
+The status is 0 if there is such an order, 1 if there is none or if a journal is refused, 2 for a fault of the
+command line, and 3 if there is none and the reason may be that a journal was cut off: it has no line `end`.";
+
+/// A command that was made, or the error that there was no memory for it.
+type Made<'a> = Result<Command<'a>, Error>;
 
 /// The command line that the program takes. Fails only if memory runs out.
-pub(crate) fn program<'a>(alloc: Global) -> Result<Command<'a>, Error>
-    ensures app { IfOk result (λ c. app_of c ≡ program) }
-    ensures memory { IfErr result (λ e. kind_of e ≡ kind.OutOfMemory) }
+pub(crate) fn program<'a>(alloc: Global) -> Made<'a>
+    ensures { IsMade result program }
 {
-    let program = with_command(alloc, bare_program(alloc), run_command(alloc))?;
-    let program = with_command(alloc, program, asm_command(alloc))?;
-    let program = with_command(alloc, program, dis_command(alloc))?;
-    let program = with_command(alloc, program, debug_command(alloc))?;
-    let program = with_command(alloc, program, script_command(alloc))?;
-    let program = with_command(alloc, program, move_command(alloc))?;
-    let program = with_command(alloc, program, audit_command(alloc))?;
-    let program = with_command(alloc, program, host_command(alloc))?;
-    let program = with_command(alloc, program, tell_command(alloc))?;
-    let program = with_command(alloc, program, replay_command(alloc))?;
+    let program = with_command(alloc, bare_program(alloc), run_command(alloc));
+    let program = with_command(alloc, program, asm_command(alloc));
+    let program = with_command(alloc, program, dis_command(alloc));
+    let program = with_command(alloc, program, debug_command(alloc));
+    let program = with_command(alloc, program, script_command(alloc));
+    let program = with_command(alloc, program, move_command(alloc));
+    let program = with_command(alloc, program, audit_command(alloc));
+    let program = with_command(alloc, program, host_command(alloc));
+    let program = with_command(alloc, program, tell_command(alloc));
+    let program = with_command(alloc, program, replay_command(alloc));
     with_command(alloc, program, audit_journals_command(alloc))
 }
 
-/// The program with one more command, if that command was made; the command also takes `--explain`. Fails only if the
-/// command was not made, or if memory runs out.
-fn with_command<'a>(
-    alloc: Global,
-    program: Command<'a>,
-    command: Result<Command<'a>, Error>,
-) -> Result<Command<'a>, Error>
-    ensures app { IfOk result (λ c. IsOkAnd command.entry (λ m. (fields_of m).has_globals ≡ false
-        → app_of c ≡ with_command (app_of program.entry) (app_of m))) }
-    ensures memory { IfErr command.entry (λ e. kind_of e ≡ kind.OutOfMemory)
-        → IfErr result (λ e. kind_of e ≡ kind.OutOfMemory) }
+/// A program with one more command, which also takes `--explain`.
+fn with_command<'a>(alloc: Global, program: Made<'a>, command: Made<'a>) -> Made<'a>
+    ensures { (whole part : App) → IsMade program.entry whole → IsMade command.entry part
+        → IsMade result (with_command whole part) }
 {
-    Ok(program.subcommand(explained(alloc, command)?)?)
+    with_subcommand(program, explained_command(command, alloc))
 }
 
-/// A command, if it was made, with the flag by which its refusal is explained. Fails only if the command was not made,
-/// or if memory runs out.
-fn explained<'a>(alloc: Global, command: Result<Command<'a>, Error>) -> Result<Command<'a>, Error>
-    ensures app { IfOk result (λ c. IsOkAnd command.entry (λ m. app_of c ≡ with_explain (app_of m))) }
-    ensures local { IfOk result (λ c. IsOkAnd command.entry (λ m. (fields_of m).has_globals ≡ false
-        → (fields_of c).has_globals ≡ false)) }
-    ensures memory { IfErr command.entry (λ e. kind_of e ≡ kind.OutOfMemory)
-        → IfErr result (λ e. kind_of e ≡ kind.OutOfMemory) }
+/// A program with one more command.
+fn with_subcommand<'a>(program: Made<'a>, command: Made<'a>) -> Made<'a>
+    ensures { (whole part : App) → IsMade program.entry whole → IsMade command.entry part
+        → IsMade result (with_subcommand whole part.top) }
 {
-    explained_command(command?, alloc)
+    Ok(program?.subcommand(command?)?)
+}
+
+/// A command with this name, which takes no words yet. `about` says in one line what it does, `help` the rest.
+fn new_command<'a>(alloc: Global, name: &'a str, about: &'a str, help: &'a str) -> Made<'a>
+    ensures { IsMade result (new_app name.now) }
+{
+    Ok(Command::new(alloc, name).about(about).after_help(help))
+}
+
+/// A command with one more word.
+fn with_arg<'a>(command: Made<'a>, arg: Arg<'a>) -> Made<'a>
+    requires { arg.global ≡ false }
+    ensures { (made : App) (rule : Rule) → IsMade command.entry made → rule_of arg.entry ≡ rule
+        → IsMade result (with_rule made rule) }
+{
+    Ok(command?.arg(arg)?)
 }
 
 /// Adds to a command the flag by which its refusal is explained.
-fn explained_command<'a>(command: Command<'a>, alloc: Global) -> Result<Command<'a>, Error>
-    ensures app { IfOk result (λ c. app_of c ≡ with_explain (app_of command.entry)) }
-    ensures local { (fields_of command.entry).has_globals ≡ false
-        → IfOk result (λ c. (fields_of c).has_globals ≡ false) }
-    ensures memory { IfErr result (λ e. kind_of e ≡ kind.OutOfMemory) }
+fn explained_command<'a>(command: Made<'a>, alloc: Global) -> Made<'a>
+    ensures { (made : App) → IsMade command.entry made → IsMade result (with_explain made) }
 {
-    Ok(command.arg(explain_flag(alloc))?)
+    with_arg(command, explain_flag(alloc))
 }
 
 /// The flag `--explain`: whether a refusal is explained.
@@ -230,14 +233,16 @@ fn explain_flag<'a>(alloc: Global) -> Arg<'a>
 }
 
 /// The program without its commands. It demands that a command is named.
-fn bare_program<'a>(alloc: Global) -> Command<'a>
-    ensures { app_of result ≡ top }
+fn bare_program<'a>(alloc: Global) -> Made<'a>
+    ensures { IsMade result top }
 {
-    Command::new(alloc, "rvmove")
-        .version(VERSION)
-        .about(ABOUT)
-        .subcommand_required(true)
-        .arg_required_else_help(true)
+    Ok(
+        Command::new(alloc, "rvmove")
+            .version(VERSION)
+            .about(ABOUT)
+            .subcommand_required(true)
+            .arg_required_else_help(true),
+    )
 }
 
 /// A word with this name that may be there. Help calls it `value`.
@@ -352,142 +357,143 @@ fn verdict_flag<'a>(alloc: Global) -> Arg<'a>
 }
 
 /// Adds to a command the words for the form of an image and for its board.
-fn board_command<'a>(command: Command<'a>, alloc: Global) -> Result<Command<'a>, Error>
-    ensures app { IfOk result (λ c. app_of c ≡ with_board (app_of command.entry)) }
-    ensures local { (fields_of command.entry).has_globals ≡ false
-        → IfOk result (λ c. (fields_of c).has_globals ≡ false) }
-    ensures memory { IfErr result (λ e. kind_of e ≡ kind.OutOfMemory) }
+fn board_command<'a>(command: Made<'a>, alloc: Global) -> Made<'a>
+    ensures { (made : App) → IsMade command.entry made → IsMade result (with_board made) }
 {
-    Ok(
-        command
-            .arg(flag(
-                alloc,
-                "raw",
-                "IMAGE is plain bytes, to be placed at 0x80000000",
-            ))?
-            .arg(number(alloc, "harts", "N", "1", 8, "How many harts, 1 to 8"))?
-            .arg(number(
-                alloc,
-                "pages",
-                "N",
-                "256",
-                4096,
-                "How many pages of 4096 bytes of RAM, 1 to 4096",
-            ))?,
+    let command = with_arg(
+        command,
+        flag(
+            alloc,
+            "raw",
+            "IMAGE is plain bytes, to be placed at 0x80000000",
+        ),
+    );
+    let command = with_arg(
+        command,
+        number(alloc, "harts", "N", "1", 8, "How many harts, 1 to 8"),
+    );
+    with_arg(
+        command,
+        number(
+            alloc,
+            "pages",
+            "N",
+            "256",
+            4096,
+            "How many pages of 4096 bytes of RAM, 1 to 4096",
+        ),
     )
 }
 
 /// Adds to a command the words for a guest.
-fn guest_command<'a>(command: Command<'a>, alloc: Global) -> Result<Command<'a>, Error>
-    ensures app { IfOk result (λ c. app_of c ≡ with_guest (app_of command.entry)) }
-    ensures local { (fields_of command.entry).has_globals ≡ false
-        → IfOk result (λ c. (fields_of c).has_globals ≡ false) }
-    ensures memory { IfErr result (λ e. kind_of e ≡ kind.OutOfMemory) }
+fn guest_command<'a>(command: Made<'a>, alloc: Global) -> Made<'a>
+    ensures { (made : App) → IsMade command.entry made → IsMade result (with_guest made) }
 {
+    let help = "The image: an ELF file, or plain bytes";
     board_command(
-        command.arg(needed(
-            alloc,
-            "image",
-            "IMAGE",
-            "The image: an ELF file, or plain bytes",
-        ))?,
+        with_arg(command, needed(alloc, "image", "IMAGE", help)),
         alloc,
     )
 }
 
 /// Adds to a command the words for a guest and for the hosts of a world.
-fn world_command<'a>(command: Command<'a>, alloc: Global) -> Result<Command<'a>, Error>
-    ensures app { IfOk result (λ c. app_of c ≡ with_world (app_of command.entry)) }
-    ensures local { (fields_of command.entry).has_globals ≡ false
-        → IfOk result (λ c. (fields_of c).has_globals ≡ false) }
-    ensures memory { IfErr result (λ e. kind_of e ≡ kind.OutOfMemory) }
+fn world_command<'a>(command: Made<'a>, alloc: Global) -> Made<'a>
+    ensures { (made : App) → IsMade command.entry made → IsMade result (with_world made) }
 {
-    Ok(
-        guest_command(command, alloc)?
-            .arg(with_default(
-                bounded(alloc, "hosts", "N", 2, 8, "How many hosts, 2 to 8"),
-                "2",
-            ))?
-            .arg(bounded(
-                alloc,
-                "stream",
-                "V",
-                1,
-                3,
-                "The version of their streams, 1 to 3; if not given, 1 for two hosts and 3 for more",
-            ))?,
-    )
+    let command = with_arg(guest_command(command, alloc), hosts_option(alloc));
+    with_arg(command, stream_option(alloc))
+}
+
+/// The option `--hosts`: the number of hosts.
+fn hosts_option<'a>(alloc: Global) -> Arg<'a>
+    ensures rule { rule_of result ≡ with_default (codes "2") (bounded (codes "hosts") 2 8) }
+    ensures local { result.global ≡ false }
+{
+    let hosts = bounded(alloc, "hosts", "N", 2, 8, "How many hosts, 2 to 8");
+    with_default(hosts, "2")
+}
+
+/// The option `--stream` of `script`: the version of the streams between the hosts.
+fn stream_option<'a>(alloc: Global) -> Arg<'a>
+    ensures rule { rule_of result ≡ bounded (codes "stream") 1 3 }
+    ensures local { result.global ≡ false }
+{
+    let help = "The version of their streams, 1 to 3; if not given, 1 for two hosts and 3 for more";
+    bounded(alloc, "stream", "V", 1, 3, help)
 }
 
 /// Adds to a command the words that say when a guest that moves is paused.
-fn policy_command<'a>(command: Command<'a>, alloc: Global) -> Result<Command<'a>, Error>
-    ensures app { IfOk result (λ c. app_of c ≡ with_policy (app_of command.entry)) }
-    ensures local { (fields_of command.entry).has_globals ≡ false
-        → IfOk result (λ c. (fields_of c).has_globals ≡ false) }
-    ensures memory { IfErr result (λ e. kind_of e ≡ kind.OutOfMemory) }
+fn policy_command<'a>(command: Made<'a>, alloc: Global) -> Made<'a>
+    ensures { (made : App) → IsMade command.entry made → IsMade result (with_policy made) }
 {
-    Ok(
-        command
-            .arg(number(
-                alloc,
-                "rounds",
-                "R",
-                "29",
-                1000,
-                "Pauses the guest after R rounds of copies, 1 to 1000",
-            ))?
-            .arg(number(
-                alloc,
-                "left",
-                "L",
-                "50",
-                4096,
-                "Pauses it once fewer than L pages are left, 1 to 4096",
-            ))?
-            .arg(number(
-                alloc,
-                "factor",
-                "F",
-                "3",
-                100,
-                "Pauses it once more copies are made than F times its pages, 1 to 100",
-            ))?,
+    let command = with_arg(
+        command,
+        number(
+            alloc,
+            "rounds",
+            "R",
+            "29",
+            1000,
+            "Pauses the guest after R rounds of copies, 1 to 1000",
+        ),
+    );
+    let command = with_arg(
+        command,
+        number(
+            alloc,
+            "left",
+            "L",
+            "50",
+            4096,
+            "Pauses it once fewer than L pages are left, 1 to 4096",
+        ),
+    );
+    with_arg(
+        command,
+        number(
+            alloc,
+            "factor",
+            "F",
+            "3",
+            100,
+            "Pauses it once more copies are made than F times its pages, 1 to 100",
+        ),
     )
 }
 
 /// Adds to a command the words for a guest, its turns and its move.
-fn moving_command<'a>(command: Command<'a>, alloc: Global) -> Result<Command<'a>, Error>
-    ensures app { IfOk result (λ c. app_of c ≡ with_move (app_of command.entry)) }
-    ensures local { (fields_of command.entry).has_globals ≡ false
-        → IfOk result (λ c. (fields_of c).has_globals ≡ false) }
-    ensures memory { IfErr result (λ e. kind_of e ≡ kind.OutOfMemory) }
+fn moving_command<'a>(command: Made<'a>, alloc: Global) -> Made<'a>
+    ensures { (made : App) → IsMade command.entry made → IsMade result (with_move made) }
 {
-    let guest = guest_command(command, alloc)?.arg(number(
-        alloc,
-        "steps",
-        "N",
-        "10000",
-        100_000,
-        "How many turns at most, 1 to 100000",
-    ))?;
-    Ok(policy_command(guest, alloc)?.arg(number(
-        alloc,
-        "stream",
-        "V",
-        "1",
-        3,
-        "The version of the streams, 1 to 3",
-    ))?)
+    let command = with_arg(
+        guest_command(command, alloc),
+        number(
+            alloc,
+            "steps",
+            "N",
+            "10000",
+            100_000,
+            "How many turns at most, 1 to 100000",
+        ),
+    );
+    with_arg(
+        policy_command(command, alloc),
+        number(
+            alloc,
+            "stream",
+            "V",
+            "1",
+            3,
+            "The version of the streams, 1 to 3",
+        ),
+    )
 }
 
 /// Adds to a command the flag by which its status tells how the guest ended.
-fn judged_command<'a>(command: Command<'a>, alloc: Global) -> Result<Command<'a>, Error>
-    ensures app { IfOk result (λ c. app_of c ≡ with_verdict (app_of command.entry)) }
-    ensures local { (fields_of command.entry).has_globals ≡ false
-        → IfOk result (λ c. (fields_of c).has_globals ≡ false) }
-    ensures memory { IfErr result (λ e. kind_of e ≡ kind.OutOfMemory) }
+fn judged_command<'a>(command: Made<'a>, alloc: Global) -> Made<'a>
+    ensures { (made : App) → IsMade command.entry made → IsMade result (with_verdict made) }
 {
-    Ok(command.arg(verdict_flag(alloc))?)
+    with_arg(command, verdict_flag(alloc))
 }
 
 /// The flag `--exit-status`: whether the status is the one with which the guest halted.
@@ -500,41 +506,33 @@ fn exit_status_flag<'a>(alloc: Global) -> Arg<'a>
 }
 
 /// Adds to a command the flags that say what its status tells.
-fn status_command<'a>(command: Command<'a>, alloc: Global) -> Result<Command<'a>, Error>
-    ensures app { IfOk result (λ c. app_of c ≡ with_status (app_of command.entry)) }
-    ensures local { (fields_of command.entry).has_globals ≡ false
-        → IfOk result (λ c. (fields_of c).has_globals ≡ false) }
-    ensures memory { IfErr result (λ e. kind_of e ≡ kind.OutOfMemory) }
+fn status_command<'a>(command: Made<'a>, alloc: Global) -> Made<'a>
+    ensures { (made : App) → IsMade command.entry made → IsMade result (with_status made) }
 {
-    Ok(
-        command
-            .arg(verdict_flag(alloc))?
-            .arg(exit_status_flag(alloc))?,
-    )
+    let command = with_arg(command, verdict_flag(alloc));
+    with_arg(command, exit_status_flag(alloc))
 }
 
 /// The command `run`, with the words that it takes.
-fn run_command<'a>(alloc: Global) -> Result<Command<'a>, Error>
-    ensures app { IfOk result (λ c. app_of c ≡ run) }
-    ensures local { IfOk result (λ c. (fields_of c).has_globals ≡ false) }
-    ensures memory { IfErr result (λ e. kind_of e ≡ kind.OutOfMemory) }
+fn run_command<'a>(alloc: Global) -> Made<'a>
+    ensures { IsMade result run }
 {
-    let run = Command::new(alloc, "run")
-        .about("Runs a guest, and writes what it sends")
-        .after_help(RUN_HELP);
-    let run = status_command(turns_command(run, alloc)?, alloc)?;
-    report_command(watch_command(run, alloc)?, alloc)
+    let run = new_command(
+        alloc,
+        "run",
+        "Runs a guest, and writes what it sends",
+        RUN_HELP,
+    );
+    let run = status_command(turns_command(run, alloc), alloc);
+    report_command(watch_command(run, alloc), alloc)
 }
 
 /// Adds to a command the words for a guest, its turns and its input.
-fn turns_command<'a>(command: Command<'a>, alloc: Global) -> Result<Command<'a>, Error>
-    ensures app { IfOk result (λ c. app_of c ≡ with_turns (app_of command.entry)) }
-    ensures local { (fields_of command.entry).has_globals ≡ false
-        → IfOk result (λ c. (fields_of c).has_globals ≡ false) }
-    ensures memory { IfErr result (λ e. kind_of e ≡ kind.OutOfMemory) }
+fn turns_command<'a>(command: Made<'a>, alloc: Global) -> Made<'a>
+    ensures { (made : App) → IsMade command.entry made → IsMade result (with_turns made) }
 {
-    let command = guest_command(command, alloc)?;
-    Ok(command.arg(steps_option(alloc))?.arg(input_option(alloc))?)
+    let command = with_arg(guest_command(command, alloc), steps_option(alloc));
+    with_arg(command, input_option(alloc))
 }
 
 /// The option `--steps` of `run`: the most turns.
@@ -547,30 +545,19 @@ fn steps_option<'a>(alloc: Global) -> Arg<'a>
 }
 
 /// Adds to a command the words of a report.
-fn report_command<'a>(command: Command<'a>, alloc: Global) -> Result<Command<'a>, Error>
-    ensures app { IfOk result (λ c. app_of c ≡ with_report (app_of command.entry)) }
-    ensures local { (fields_of command.entry).has_globals ≡ false
-        → IfOk result (λ c. (fields_of c).has_globals ≡ false) }
-    ensures memory { IfErr result (λ e. kind_of e ≡ kind.OutOfMemory) }
+fn report_command<'a>(command: Made<'a>, alloc: Global) -> Made<'a>
+    ensures { (made : App) → IsMade command.entry made → IsMade result (with_report made) }
 {
-    let command = command
-        .arg(signature_option(alloc))?
-        .arg(coverage_option(alloc))?;
-    profile_command(command, alloc)
+    let command = with_arg(command, signature_option(alloc));
+    profile_command(with_arg(command, coverage_option(alloc)), alloc)
 }
 
 /// Adds to a command the words of a profile.
-fn profile_command<'a>(command: Command<'a>, alloc: Global) -> Result<Command<'a>, Error>
-    ensures app { IfOk result (λ c. app_of c ≡ with_profile (app_of command.entry)) }
-    ensures local { (fields_of command.entry).has_globals ≡ false
-        → IfOk result (λ c. (fields_of c).has_globals ≡ false) }
-    ensures memory { IfErr result (λ e. kind_of e ≡ kind.OutOfMemory) }
+fn profile_command<'a>(command: Made<'a>, alloc: Global) -> Made<'a>
+    ensures { (made : App) → IsMade command.entry made → IsMade result (with_profile made) }
 {
-    Ok(
-        command
-            .arg(profile_option(alloc))?
-            .arg(symbols_option(alloc))?,
-    )
+    let command = with_arg(command, profile_option(alloc));
+    with_arg(command, symbols_option(alloc))
 }
 
 /// The option `--profile`: the file that gets how many steps each symbol took.
@@ -612,28 +599,19 @@ fn signature_option<'a>(alloc: Global) -> Arg<'a>
 }
 
 /// Adds to a command the words that say what is looked at while the guest runs.
-fn watch_command<'a>(command: Command<'a>, alloc: Global) -> Result<Command<'a>, Error>
-    ensures app { IfOk result (λ c. app_of c ≡ with_watch (app_of command.entry)) }
-    ensures local { (fields_of command.entry).has_globals ≡ false
-        → IfOk result (λ c. (fields_of c).has_globals ≡ false) }
-    ensures memory { IfErr result (λ e. kind_of e ≡ kind.OutOfMemory) }
+fn watch_command<'a>(command: Made<'a>, alloc: Global) -> Made<'a>
+    ensures { (made : App) → IsMade command.entry made → IsMade result (with_watch made) }
 {
-    trace_command(command.arg(stop_at_fault_flag(alloc))?, alloc)
+    trace_command(with_arg(command, stop_at_fault_flag(alloc)), alloc)
 }
 
 /// Adds to a command the words of a trace.
-fn trace_command<'a>(command: Command<'a>, alloc: Global) -> Result<Command<'a>, Error>
-    ensures app { IfOk result (λ c. app_of c ≡ with_trace (app_of command.entry)) }
-    ensures local { (fields_of command.entry).has_globals ≡ false
-        → IfOk result (λ c. (fields_of c).has_globals ≡ false) }
-    ensures memory { IfErr result (λ e. kind_of e ≡ kind.OutOfMemory) }
+fn trace_command<'a>(command: Made<'a>, alloc: Global) -> Made<'a>
+    ensures { (made : App) → IsMade command.entry made → IsMade result (with_trace made) }
 {
-    Ok(
-        command
-            .arg(trace_option(alloc))?
-            .arg(trace_from_option(alloc))?
-            .arg(trace_to_option(alloc))?,
-    )
+    let command = with_arg(command, trace_option(alloc));
+    let command = with_arg(command, trace_from_option(alloc));
+    with_arg(command, trace_to_option(alloc))
 }
 
 /// The flag `--stop-at-fault`: whether the run ends at the first trap that the guest has no handler for.
@@ -677,146 +655,153 @@ fn trace_to_option<'a>(alloc: Global) -> Arg<'a>
 }
 
 /// The command `asm`, with the words that it takes.
-fn asm_command<'a>(alloc: Global) -> Result<Command<'a>, Error>
-    ensures app { IfOk result (λ c. app_of c ≡ asm) }
-    ensures local { IfOk result (λ c. (fields_of c).has_globals ≡ false) }
-    ensures memory { IfErr result (λ e. kind_of e ≡ kind.OutOfMemory) }
+fn asm_command<'a>(alloc: Global) -> Made<'a>
+    ensures { IsMade result asm }
 {
-    Ok(
-        Command::new(alloc, "asm")
-            .about("Assembles a text into an ELF file")
-            .after_help(ASM_HELP)
-            .arg(needed(alloc, "source", "SRC", "The file of the assembly text"))?
-            .arg(needed(alloc, "output", "OUT", "The ELF file that is written"))?,
+    let command = new_command(alloc, "asm", "Assembles a text into an ELF file", ASM_HELP);
+    let command = with_arg(
+        command,
+        needed(alloc, "source", "SRC", "The file of the assembly text"),
+    );
+    with_arg(
+        command,
+        needed(alloc, "output", "OUT", "The ELF file that is written"),
     )
 }
 
 /// The command `dis`, with the words that it takes.
-fn dis_command<'a>(alloc: Global) -> Result<Command<'a>, Error>
-    ensures app { IfOk result (λ c. app_of c ≡ dis) }
-    ensures local { IfOk result (λ c. (fields_of c).has_globals ≡ false) }
-    ensures memory { IfErr result (λ e. kind_of e ≡ kind.OutOfMemory) }
+fn dis_command<'a>(alloc: Global) -> Made<'a>
+    ensures { IsMade result dis }
 {
-    let dis = Command::new(alloc, "dis")
-        .about("Writes the instructions of an image")
-        .after_help(DIS_HELP);
+    let dis = new_command(
+        alloc,
+        "dis",
+        "Writes the instructions of an image",
+        DIS_HELP,
+    );
     guest_command(dis, alloc)
 }
 
 /// The command `debug`, with the words that it takes.
-fn debug_command<'a>(alloc: Global) -> Result<Command<'a>, Error>
-    ensures app { IfOk result (λ c. app_of c ≡ debug) }
-    ensures local { IfOk result (λ c. (fields_of c).has_globals ≡ false) }
-    ensures memory { IfErr result (λ e. kind_of e ≡ kind.OutOfMemory) }
+fn debug_command<'a>(alloc: Global) -> Made<'a>
+    ensures { IsMade result debug }
 {
-    let debug = Command::new(alloc, "debug")
-        .about("Answers the lines of a debugger's script from standard input")
-        .after_help(DEBUG_HELP);
-    Ok(guest_command(debug, alloc)?.arg(flag(
+    let debug = new_command(
         alloc,
-        "extended",
-        "Takes more lines than those of a script",
-    ))?)
+        "debug",
+        "Answers the lines of a debugger's script from standard input",
+        DEBUG_HELP,
+    );
+    let help = "Takes more lines than those of a script";
+    with_arg(guest_command(debug, alloc), flag(alloc, "extended", help))
 }
 
 /// The command `script`, with the words that it takes.
-fn script_command<'a>(alloc: Global) -> Result<Command<'a>, Error>
-    ensures app { IfOk result (λ c. app_of c ≡ script) }
-    ensures local { IfOk result (λ c. (fields_of c).has_globals ≡ false) }
-    ensures memory { IfErr result (λ e. kind_of e ≡ kind.OutOfMemory) }
+fn script_command<'a>(alloc: Global) -> Made<'a>
+    ensures { IsMade result script }
 {
-    let script = Command::new(alloc, "script")
-        .about("Answers the lines of a script for hosts between which a guest moves")
-        .after_help(SCRIPT_HELP);
-    Ok(world_command(script, alloc)?.arg(needed(
+    let script = new_command(
         alloc,
         "script",
-        "FILE",
-        "The file of the script",
-    ))?)
+        "Answers the lines of a script for hosts between which a guest moves",
+        SCRIPT_HELP,
+    );
+    let help = "The file of the script";
+    with_arg(
+        world_command(script, alloc),
+        needed(alloc, "script", "FILE", help),
+    )
 }
 
 /// The command `move`, with the words that it takes.
-fn move_command<'a>(alloc: Global) -> Result<Command<'a>, Error>
-    ensures app { IfOk result (λ c. app_of c ≡ move) }
-    ensures local { IfOk result (λ c. (fields_of c).has_globals ≡ false) }
-    ensures memory { IfErr result (λ e. kind_of e ≡ kind.OutOfMemory) }
+fn move_command<'a>(alloc: Global) -> Made<'a>
+    ensures { IsMade result move }
 {
-    let command = Command::new(alloc, "move")
-        .about("Moves a guest from one host to another while it runs, and writes what it sends")
-        .after_help(MOVE_HELP);
-    judged_command(moving_command(command, alloc)?, alloc)
+    let command = new_command(
+        alloc,
+        "move",
+        "Moves a guest from one host to another while it runs, and writes what it sends",
+        MOVE_HELP,
+    );
+    judged_command(moving_command(command, alloc), alloc)
 }
 
 /// The command `audit`, with the words that it takes.
-fn audit_command<'a>(alloc: Global) -> Result<Command<'a>, Error>
-    ensures app { IfOk result (λ c. app_of c ≡ audit) }
-    ensures local { IfOk result (λ c. (fields_of c).has_globals ≡ false) }
-    ensures memory { IfErr result (λ e. kind_of e ≡ kind.OutOfMemory) }
+fn audit_command<'a>(alloc: Global) -> Made<'a>
+    ensures { IsMade result audit }
 {
-    let audit = Command::new(alloc, "audit")
-        .about("Moves a guest as `move` does, and writes one order of what both hosts did")
-        .after_help(AUDIT_HELP);
+    let audit = new_command(
+        alloc,
+        "audit",
+        "Moves a guest as `move` does, and writes one order of what both hosts did",
+        AUDIT_HELP,
+    );
     moving_command(audit, alloc)
 }
 
 /// Adds to a command the words that say where a host is reached, and by whom.
-fn addresses_command<'a>(command: Command<'a>, alloc: Global) -> Result<Command<'a>, Error>
-    ensures app { IfOk result (λ c. app_of c ≡ with_addresses (app_of command.entry)) }
-    ensures local { (fields_of command.entry).has_globals ≡ false
-        → IfOk result (λ c. (fields_of c).has_globals ≡ false) }
-    ensures memory { IfErr result (λ e. kind_of e ≡ kind.OutOfMemory) }
+fn addresses_command<'a>(command: Made<'a>, alloc: Global) -> Made<'a>
+    ensures { (made : App) → IsMade command.entry made → IsMade result (with_addresses made) }
 {
-    Ok(
-        command
-            .arg(needed_option(
-                alloc,
-                "peers",
-                "FILE",
-                "The file of the world's hosts: a line `NAME ADDRESS:PORT` for each, 2 to 8",
-            ))?
-            .arg(option(
-                alloc,
-                "listen",
-                "ADDR",
-                "The address at which it listens for other hosts, if it is not that of its name in FILE",
-            ))?
-            .arg(needed_option(
-                alloc,
-                "control",
-                "SOCKET",
-                "Where it listens for operators: the path of a Unix socket, or an address of this machine",
-            ))?
-            .arg(option(
-                alloc,
-                "secret",
-                "FILE",
-                "The file of the secret that the hosts of the world share",
-            ))?,
+    let command = with_arg(
+        command,
+        needed_option(
+            alloc,
+            "peers",
+            "FILE",
+            "The file of the world's hosts: a line `NAME ADDRESS:PORT` for each, 2 to 8",
+        ),
+    );
+    let command = with_arg(
+        command,
+        option(
+            alloc,
+            "listen",
+            "ADDR",
+            "The address at which it listens for other hosts, if it is not that of its name in FILE",
+        ),
+    );
+    let command = with_arg(
+        command,
+        needed_option(
+            alloc,
+            "control",
+            "SOCKET",
+            "Where it listens for operators: the path of a Unix socket, or an address of this machine",
+        ),
+    );
+    with_arg(
+        command,
+        option(
+            alloc,
+            "secret",
+            "FILE",
+            "The file of the secret that the hosts of the world share",
+        ),
     )
 }
 
 /// Adds to a command the words for the name of a host, and for the image of a guest, which may be missing.
-fn named_command<'a>(command: Command<'a>, alloc: Global) -> Result<Command<'a>, Error>
-    ensures app { IfOk result (λ c. app_of c ≡ with_name (app_of command.entry)) }
-    ensures local { (fields_of command.entry).has_globals ≡ false
-        → IfOk result (λ c. (fields_of c).has_globals ≡ false) }
-    ensures memory { IfErr result (λ e. kind_of e ≡ kind.OutOfMemory) }
+fn named_command<'a>(command: Made<'a>, alloc: Global) -> Made<'a>
+    ensures { (made : App) → IsMade command.entry made → IsMade result (with_name made) }
 {
-    Ok(
-        command
-            .arg(needed(
-                alloc,
-                "name",
-                "NAME",
-                "The name of this host in the file of the world's hosts, A to H",
-            ))?
-            .arg(allowed(
-                alloc,
-                "image",
-                "IMAGE",
-                "The image of the guest that begins here, if one does: an ELF file, or plain bytes",
-            ))?,
+    let command = with_arg(
+        command,
+        needed(
+            alloc,
+            "name",
+            "NAME",
+            "The name of this host in the file of the world's hosts, A to H",
+        ),
+    );
+    with_arg(
+        command,
+        allowed(
+            alloc,
+            "image",
+            "IMAGE",
+            "The image of the guest that begins here, if one does: an ELF file, or plain bytes",
+        ),
     )
 }
 
@@ -848,106 +833,97 @@ fn until_halt_flag<'a>(alloc: Global) -> Arg<'a>
 }
 
 /// Adds to a command the words that say how a host works.
-fn hosting_command<'a>(command: Command<'a>, alloc: Global) -> Result<Command<'a>, Error>
-    ensures app { IfOk result (λ c. app_of c ≡ with_hosting (app_of command.entry)) }
-    ensures local { (fields_of command.entry).has_globals ≡ false
-        → IfOk result (λ c. (fields_of c).has_globals ≡ false) }
-    ensures memory { IfErr result (λ e. kind_of e ≡ kind.OutOfMemory) }
+fn hosting_command<'a>(command: Made<'a>, alloc: Global) -> Made<'a>
+    ensures { (made : App) → IsMade command.entry made → IsMade result (with_hosting made) }
 {
-    Ok(
-        command
-            .arg(input_option(alloc))?
-            .arg(patience_option(alloc))?
-            .arg(rate_option(alloc))?
-            .arg(until_halt_flag(alloc))?,
-    )
+    let command = with_arg(command, input_option(alloc));
+    let command = with_arg(command, patience_option(alloc));
+    let command = with_arg(command, rate_option(alloc));
+    with_arg(command, until_halt_flag(alloc))
 }
 
 /// Adds to a command the option `--journal`: the file of the host's journal.
-fn journal_command<'a>(command: Command<'a>, alloc: Global) -> Result<Command<'a>, Error>
-    ensures app { IfOk result (λ c. app_of c ≡ with_journal (app_of command.entry)) }
-    ensures local { (fields_of command.entry).has_globals ≡ false
-        → IfOk result (λ c. (fields_of c).has_globals ≡ false) }
-    ensures memory { IfErr result (λ e. kind_of e ≡ kind.OutOfMemory) }
+fn journal_command<'a>(command: Made<'a>, alloc: Global) -> Made<'a>
+    ensures { (made : App) → IsMade command.entry made → IsMade result (with_journal made) }
 {
-    Ok(command.arg(option(
-        alloc,
-        "journal",
-        "FILE",
-        "The file of its journal, in which each event at this host has a line",
-    ))?)
+    with_arg(
+        command,
+        option(
+            alloc,
+            "journal",
+            "FILE",
+            "The file of its journal, in which each event at this host has a line",
+        ),
+    )
 }
 
 /// The command `host`, with the words that it takes.
-fn host_command<'a>(alloc: Global) -> Result<Command<'a>, Error>
-    ensures app { IfOk result (λ c. app_of c ≡ host) }
-    ensures local { IfOk result (λ c. (fields_of c).has_globals ≡ false) }
-    ensures memory { IfErr result (λ e. kind_of e ≡ kind.OutOfMemory) }
+fn host_command<'a>(alloc: Global) -> Made<'a>
+    ensures { IsMade result host }
 {
-    let host = Command::new(alloc, "host")
-        .about("Runs a host of a world whose hosts are processes, between which a guest moves")
-        .after_help(HOST_HELP);
-    let host = board_command(named_command(host, alloc)?, alloc)?;
-    let host = hosting_command(addresses_command(host, alloc)?, alloc)?;
-    judged_command(journal_command(host, alloc)?, alloc)
+    let host = new_command(
+        alloc,
+        "host",
+        "Runs a host of a world whose hosts are processes, between which a guest moves",
+        HOST_HELP,
+    );
+    let host = board_command(named_command(host, alloc), alloc);
+    let host = hosting_command(addresses_command(host, alloc), alloc);
+    judged_command(journal_command(host, alloc), alloc)
 }
 
 /// The command `tell`, with the words that it takes.
-fn tell_command<'a>(alloc: Global) -> Result<Command<'a>, Error>
-    ensures app { IfOk result (λ c. app_of c ≡ tell) }
-    ensures local { IfOk result (λ c. (fields_of c).has_globals ≡ false) }
-    ensures memory { IfErr result (λ e. kind_of e ≡ kind.OutOfMemory) }
+fn tell_command<'a>(alloc: Global) -> Made<'a>
+    ensures { IsMade result tell }
 {
-    Ok(
-        Command::new(alloc, "tell")
-            .about("Tells a host lines of an operator, and writes its answers")
-            .after_help(TELL_HELP)
-            .arg(needed(
-                alloc,
-                "socket",
-                "SOCKET",
-                "What the host was given by --control: a path, which has a `/`, or an address",
-            ))?
-            .arg(allowed(
-                alloc,
-                "line",
-                "LINE",
-                "The line; without it, those of standard input",
-            ))?,
+    let command = new_command(
+        alloc,
+        "tell",
+        "Tells a host lines of an operator, and writes its answers",
+        TELL_HELP,
+    );
+    let command = with_arg(
+        command,
+        needed(
+            alloc,
+            "socket",
+            "SOCKET",
+            "What the host was given by --control: a path, which has a `/`, or an address",
+        ),
+    );
+    with_arg(
+        command,
+        allowed(
+            alloc,
+            "line",
+            "LINE",
+            "The line; without it, those of standard input",
+        ),
     )
 }
 
 /// The command `replay`, with the words that it takes.
-fn replay_command<'a>(alloc: Global) -> Result<Command<'a>, Error>
-    ensures app { IfOk result (λ c. app_of c ≡ replay) }
-    ensures local { IfOk result (λ c. (fields_of c).has_globals ≡ false) }
-    ensures memory { IfErr result (λ e. kind_of e ≡ kind.OutOfMemory) }
+fn replay_command<'a>(alloc: Global) -> Made<'a>
+    ensures { IsMade result replay }
 {
-    let command = Command::new(alloc, "replay")
-        .about("Does again what the journal of a host tells, and writes what the guest sent there")
-        .after_help(REPLAY_HELP)
-        .arg(needed(alloc, "journal", "JOURNAL", "The file of the journal"))?
-        .arg(option(
-            alloc,
-            "image",
-            "IMAGE",
-            "The image of the guest with which the host began",
-        ))?;
-    replay_options(command, alloc)
+    let replay = new_command(
+        alloc,
+        "replay",
+        "Does again what the journal of a host tells, and writes what the guest sent there",
+        REPLAY_HELP,
+    );
+    let journal = needed(alloc, "journal", "JOURNAL", "The file of the journal");
+    let help = "The image of the guest with which the host began";
+    let image = option(alloc, "image", "IMAGE", help);
+    replay_options(with_arg(with_arg(replay, journal), image), alloc)
 }
 
 /// Adds to a command the words that say how far a journal is replayed, and what is asked of its guest then.
-fn replay_options<'a>(command: Command<'a>, alloc: Global) -> Result<Command<'a>, Error>
-    ensures app { IfOk result (λ c. app_of c ≡ with_replay (app_of command.entry)) }
-    ensures local { (fields_of command.entry).has_globals ≡ false
-        → IfOk result (λ c. (fields_of c).has_globals ≡ false) }
-    ensures memory { IfErr result (λ e. kind_of e ≡ kind.OutOfMemory) }
+fn replay_options<'a>(command: Made<'a>, alloc: Global) -> Made<'a>
+    ensures { (made : App) → IsMade command.entry made → IsMade result (with_replay made) }
 {
-    Ok(
-        command
-            .arg(until_option(alloc))?
-            .arg(session_option(alloc))?,
-    )
+    let command = with_arg(command, until_option(alloc));
+    with_arg(command, session_option(alloc))
 }
 
 /// The option `--until` of `replay`: the most events that are done.
@@ -969,19 +945,18 @@ fn session_option<'a>(alloc: Global) -> Arg<'a>
 }
 
 /// The command `audit-journals`, with the words that it takes.
-fn audit_journals_command<'a>(alloc: Global) -> Result<Command<'a>, Error>
-    ensures app { IfOk result (λ c. app_of c ≡ audit_journals) }
-    ensures local { IfOk result (λ c. (fields_of c).has_globals ≡ false) }
-    ensures memory { IfErr result (λ e. kind_of e ≡ kind.OutOfMemory) }
+fn audit_journals_command<'a>(alloc: Global) -> Made<'a>
+    ensures { IsMade result audit_journals }
 {
-    Ok(
-        Command::new(alloc, "audit-journals")
-            .about("Looks for one order of what the journals of a world's hosts tell")
-            .after_help(AUDIT_JOURNALS_HELP)
-            .arg(journals_argument(alloc))?
-            .arg(journals_image_option(alloc))?
-            .arg(order_flag(alloc))?,
-    )
+    let command = new_command(
+        alloc,
+        "audit-journals",
+        "Looks for one order of what the journals of a world's hosts tell",
+        AUDIT_JOURNALS_HELP,
+    );
+    let command = with_arg(command, journals_argument(alloc));
+    let command = with_arg(command, journals_image_option(alloc));
+    with_arg(command, order_flag(alloc))
 }
 
 /// The words of `audit-journals` that name the files of journals.
