@@ -1,7 +1,6 @@
 use Rattle.std.proofs.Common.{subst, sym}
 use Rattle.std.specs.Prelude.{IfOk, OnErr}
 use Rattle.rvm_program.specs.Ended.{HasEnded, ToTell, written}
-use Rattle.rvm_program.proofs.AuditedFiles.{journals_untold}
 use Rattle.rvm_program.proofs.Ended.{host_untold, replay_untold, tell_untold}
 use Rattle.rvm_program.proofs.begin.Goals as goal
 
@@ -66,5 +65,4 @@ returns-in-AuditJournals-clause-untold g c =
     let output = written (g.O.Write.contents c.args.output.now) (g.O.Write.contents c.audit_journals.new.output) in
     subst (λ a. OnErr c.audit_journals.result (ToTell (λ status errors.
     HasEnded (g.F.NamedFiles.bytes_of c.args.files.now) (g.F.NamedFiles.created_of c.args.files.now) a status
-    (g.I.Read.remaining c.args.input.now) output errors))) (sym c.in-AuditJournals.is)
-    (journals_untold _ _ output.before c.audit_journals.result)
+    (g.I.Read.remaining c.args.input.now) output errors))) (sym c.in-AuditJournals.is) c.audit_journals.ensures.untold
