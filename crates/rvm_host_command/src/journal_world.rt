@@ -109,7 +109,7 @@ fn replay_file<M: PagedMemory + Drop>(
     let Some(file) = files.get(index) else {
         return Err(JournalsFault::NoGuest);
     };
-    match replay_bytes(alloc, &header, &file.bytes, image) {
+    match replay_bytes(alloc, &header, &file.bytes, image, None) {
         Ok(recorded) => Ok(recorded),
         Err(FileFault::Journal(JournalFault::OutOfMemory)) => Err(JournalsFault::OutOfMemory),
         Err(fault) => Err(JournalsFault::File(index, fault)),
