@@ -10,7 +10,7 @@ use Rattle.rvm_host.specs.Hosts.{new_host}
 use Rattle.rvm_recorder.specs.History.{Recording}
 use Rattle.rvm_journal.specs.declared.header.Header.{Header}
 use Rattle.rvm_journal.specs.declared.header.Image.{Image}
-use Rattle.rvm_journal.specs.Replaying.{events_in}
+use Rattle.rvm_journal.specs.Replaying.{AreFirstTold, events_in}
 use Rattle.rvm_journal.specs.Told.{Told, told_in}
 
 -- this guest, or none, is the one that a header names, and that the file of its image has
@@ -29,3 +29,15 @@ pub record IsHostOf (header : Header) (bytes image : List ℕ) (r : Recording) :
   pub told : Told
   pub told_is : told_in header.hosts header.host bytes ≡ Some told
   pub events : events_in r.journal.entries ≡ told.events
+
+-- a host began so, and did the first events that the journal tells: this many, or all, if it tells no more
+pub record HasDoneFirst (most : ℕ) (header : Header) (bytes image : List ℕ) (r : Recording) : Type 0 where
+  pub guest : Option GuestState
+  pub guest_is : IsGuestNamed header.guest image guest
+  pub opening : r.journal.opening ≡ new_host guest header.host header.hosts 4096 3
+  pub first : AreFirstTold most header.hosts header.host bytes (events_in r.journal.entries)
+
+-- a host began so, and did what is wanted of what the journal tells: this many events, or all
+abbrev pub IsHostAfter : (most : Option ℕ) → Header → (bytes image : List ℕ) → Recording → Type 0
+IsHostAfter None header bytes image r = IsHostOf header bytes image r
+IsHostAfter (Some m) header bytes image r = HasDoneFirst m header bytes image r

@@ -2,7 +2,9 @@ pub mod Hosted
 pub mod Told
 pub mod Answered
 pub mod Journals
+pub mod FileFaults
 pub mod Consoles
+pub mod Replays
 pub mod Counts
 pub mod Audited
 pub mod FileFaults

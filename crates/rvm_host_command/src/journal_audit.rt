@@ -15,6 +15,7 @@ use crate::answers::letter_of;
 use crate::journal_cuts::cuts_of;
 use crate::journal_file::{JournalFile, JournalsFault};
 use crate::journal_headers::{Wanted, index_of};
+use crate::journal_report::report_fault;
 use crate::journal_summary::write_summary;
 use crate::journal_world::replay_all;
 use rvm_audit::laws::the_guest_of_an_order_never_moves;
@@ -219,8 +220,8 @@ fn tell_fault<E: Write>(
         JournalsFault::OutOfMemory => tell_refusal(Refusal::OutOfMemory, errors)?,
         JournalsFault::NoGuest => writeln!(errors, "no journal begins with a guest")?,
         JournalsFault::File(index, fault) => match files.get(index) {
-            Some(file) => writeln!(errors, "{}: {fault}", file.name)?,
-            None => writeln!(errors, "{fault}")?,
+            Some(file) => report_fault(file.name, fault, errors)?,
+            None => report_fault("journal", fault, errors)?,
         },
     }
     Ok(())

@@ -116,7 +116,7 @@ fn replay_file<M: PagedMemory + Drop>(
 {
     let header = header_number(files, index)?;
     let file = &files[index];
-    match replay_bytes(alloc, &header, &file.bytes, image) {
+    match replay_bytes(alloc, &header, &file.bytes, image, None) {
         Ok(recorded) => Ok(recorded),
         Err(FileFault::Journal(JournalFault::OutOfMemory)) => Err(JournalsFault::OutOfMemory),
         Err(fault) => Err(JournalsFault::File(index, fault)),

@@ -10,8 +10,9 @@
 //!
 //! To be read in this order: `fault`, `address`, `outbound`, `timed`, `door`, `process`, `meeting`, `peer`, `accepter`,
 //! `ticker`, `operators`, `answers`, `control`, `threads`, `turns`, `hosting`, `host_command`, `tell_command`;
-//! `journal_file`, `journal_hosts`, `console_of_journal`, `replay_command`; `journal_headers`, `journal_world`,
-//! `journal_cuts`, `journal_counts`, `journal_summary`, `journal_audit`; `laws`, which calls no code.
+//! `journal_file`, `journal_hosts`, `journal_report`, `console_of_journal`, `replay_command`, `replay_session`;
+//! `journal_headers`, `journal_world`, `journal_cuts`, `journal_counts`, `journal_summary`, `journal_audit`; `laws`, which
+//! calls no code.
 #![tactic(auto)]
 
 mod accepter;
@@ -29,6 +30,7 @@ mod journal_cuts;
 pub mod journal_file;
 mod journal_headers;
 mod journal_hosts;
+mod journal_report;
 mod journal_summary;
 mod journal_world;
 pub mod laws;
@@ -38,6 +40,7 @@ mod outbound;
 mod peer;
 mod process;
 pub mod replay_command;
+pub mod replay_session;
 pub mod tell_command;
 mod threads;
 mod ticker;

@@ -1,11 +1,11 @@
 -- Lines of a journal are done one after the other, by a recorded host.
-use Rattle.std.proofs.Common.{◌≡◌, ◌∙◌, ℕ, zero, suc, ◌+◌, ◌-◌, ◌%◌, ◌<◌, ◌≤◌, min, Bool, true, false, cond, ◌&&◌, List, [], ◌∷◌, ◌++◌, length, map, take, drop, Option, Some, None, Result, Ok, Err, option_map, refl, sym, ap, subst, append_assoc, arith, length-append, inl, inr, ◌==◌}
+use Rattle.std.proofs.Common.{◌≡◌, ◌∙◌, ℕ, zero, suc, ◌+◌, ◌-◌, ◌%◌, ◌<◌, ◌≤◌, min, Bool, true, false, cond, ◌&&◌, List, [], ◌∷◌, ◌++◌, length, map, take, drop, Option, Some, None, Result, Ok, Err, option_map, refl, sym, ap, subst, append_assoc, arith, length-append, inl, inr, ◌⊎◌, ◌==◌}
 use native.Mathlib.Nat.{mod-add-mod}
 use Rattle.std.specs.Option.{option_and_then}
 use Rattle.std.specs.Prelude.{codes, nat_le, nat_lt, slice_get}
 use Rattle.std.specs.Str.{bytes_eq}
 use Rattle.std.proofs.lemmas.Bool.Decides.{nat_tests}
-use Rattle.std.proofs.lemmas.List.{append-nil, map-append}
+use Rattle.std.proofs.lemmas.List.{append-nil, length-map, map-append}
 use Rattle.std.proofs.lemmas.Option.{same_Some}
 use Rattle.hex.specs.Hex.{decode_of}
 use Rattle.hex.specs.declared.error.FromHexError.{FromHexError}
@@ -30,10 +30,10 @@ use Rattle.rvm_journal.specs.declared.replay.JournalFault.{JournalFault}
 use Rattle.rvm_journal.specs.declared.replay.JournalFault.TheVariants as fault
 use Rattle.rvm_journal.specs.Headers.{first_header, header_at, header_in_line}
 use Rattle.rvm_journal.specs.Noting.{bytes_noted, came_noted, command_in, end_noted, events_of, frame_noted, noted_by, noted_of, run_if, run_of, turns_noted}
-use Rattle.rvm_journal.specs.Replaying.{HasHarts, HasMore, IsBadLine, IsJournalFault, IsLineDone, IsLineFault, IsReplayed, LacksHeader, Records, events_in, noted_at}
+use Rattle.rvm_journal.specs.Replaying.{AreFewer, HasHarts, HasMore, IsFull, IsJournalFault, IsLineFault, IsReplayedTo, IsRoomFault, IsSpent, IsWanted, LacksHeader, LacksRoom, Records, events_in, first_of, left_of, noted_at, room_of}
 use Rattle.rvm_journal.specs.Told.{Told, at_header, digest_behind, header_told, mark, no_digest, text_in, told_by, told_in, told_of}
 use Rattle.rvm_journal.proofs.Adding.{behind_header, one_told}
-use Rattle.rvm_journal.proofs.Runs.{joined, of_turn}
+use Rattle.rvm_journal.proofs.Runs.{how_many, joined, of_turn}
 
 -- at most n elements
 pub take_short : (n : ℕ) (xs : List ℕ) → take (min (length xs) n) xs ≡ take n xs
@@ -131,6 +131,13 @@ then_recorded a b c es fs first more = record {
   events = more.events ∙ ap (λ l. l ++ fs) first.events ∙ append_assoc (events_in a.journal.entries) es fs;
   capacity = more.capacity ∙ first.capacity;
 }
+
+-- how many entries were recorded
+longer : (a b : Recording) (es : List HostEvent) → Records a es b → count_of b ≡ count_of a + length es
+longer a b es so =
+    let all : length (events_in b.journal.entries) ≡ length (events_in a.journal.entries ++ es) = ap length so.events in
+    omega (arith, all, length-append (events_in a.journal.entries) es, length-map a.journal.entries (λ (x : PlainEntry). x.event),
+    length-map b.journal.entries (λ (x : PlainEntry). x.event))
 
 pub more_recorded : (a b c : Recording) (es : List HostEvent) → Records a es b → HasMore b c → HasMore a c
 more_recorded a b c es first more = (es ++ more.0, then_recorded a b c es more.0 first more.1)
@@ -231,6 +238,67 @@ all_turned first harts count left turn a b so none =
     let whole : so.taken ≡ count = omega (arith, all, none) in
     subst (λ n. Records a (steps_from first harts n) b) whole so.recorded
 
+-- no room for the turns that are left
+pub none_left : (why : RecordError) (first harts count left turn : ℕ) (a b : Recording) → Turned first harts count left turn a b
+    → 1 ≤ left → IsFull why b → LacksRoom why a (length (steps_from first harts count))
+none_left record_error.OutOfMemory first harts count left turn a b so some full = tt
+none_left (record_error.RecorderFull c) first harts count left turn a b so some full =
+    let all = so.all in
+    let same = so.recorded.capacity in
+    let made = longer a b (steps_from first harts so.taken) so.recorded in
+    omega (arith, all, some, full, same, made, how_many first harts so.taken, how_many first harts count)
+
+-- what is wanted of no event, and of one
+pub first_none : (most : Option ℕ) → [] ≡ first_of most []
+first_none None = refl
+first_none (Some zero) = refl
+first_none (Some (suc n)) = refl
+
+pub first_one : (most : Option ℕ) (e : HostEvent) → IsWanted most → e ∷ [] ≡ first_of most (e ∷ [])
+first_one None e wanted = refl
+first_one (Some zero) e wanted = absurd (omega arith)
+first_one (Some (suc n)) e wanted = ap (λ l. e ∷ l) (first_none (Some n))
+
+left_none : (most : Option ℕ) → most ≡ left_of most []
+left_none None = refl
+left_none (Some n) = ap (λ k. Some k) (omega arith)
+
+-- what is wanted of events, and of those after them
+take_both : (n : ℕ) (es fs : List HostEvent) → take n (es ++ fs) ≡ take n es ++ take (n - length es) fs
+take_both zero [] fs = refl
+take_both zero (e ∷ es) fs = let none : 0 - length (e ∷ es) ≡ 0 = omega arith in sym (ap (λ k. take k fs) none)
+take_both (suc n) [] fs = let all : suc n ≡ suc n - length [] = omega arith in ap (λ k. take k fs) all
+take_both (suc n) (e ∷ es) fs =
+    let down : n - length es ≡ suc n - length (e ∷ es) = omega arith in
+    ap (λ l. e ∷ l) (take_both n es fs) ∙ ap (λ k. e ∷ (take n es ++ take k fs)) down
+
+first_both : (most : Option ℕ) (es fs : List HostEvent)
+    → first_of most es ++ first_of (left_of most es) fs ≡ first_of most (es ++ fs)
+first_both None es fs = refl
+first_both (Some n) es fs = sym (take_both n es fs)
+
+left_both : (most : Option ℕ) (es fs : List HostEvent) → left_of (left_of most es) fs ≡ left_of most (es ++ fs)
+left_both None es fs = refl
+left_both (Some n) es fs =
+    let down : n - length es - length fs ≡ n - length (es ++ fs) = omega (arith, length-append es fs) in ap (λ k. Some k) down
+
+still_few : (most : Option ℕ) (es : List HostEvent) → IsWanted (left_of most es) → AreFewer most es
+still_few None es wanted = tt
+still_few (Some n) es wanted = omega (arith, wanted)
+
+enough_told : (m : ℕ) (left : Option ℕ) (rest : List (List ℕ)) (es : List HostEvent) → left ≡ left_of (Some m) es
+    → (rest ≡ []) ⊎ (left ≡ Some 0) → (rest ≡ []) ⊎ (m ≤ length es)
+enough_told m left rest es is (inl none) = inl none
+enough_told m left rest es is (inr spent) =
+    let zero_left : m - length es ≡ 0 = same_Some (m - length es) 0 (sym is ∙ spent) in inr (omega (arith, zero_left))
+
+-- a line that was not read leaves the recorder as it was
+pub not_spent : (why : JournalFault) (n h number : ℕ) (digest line : List ℕ) (r : Recording)
+    → IsLineFault why n h number digest line → IsSpent why r
+not_spent (fault.BadLine k) n h number digest line r bad = tt
+not_spent fault.TooLong n h number digest line r bad = absurd bad
+not_spent fault.OutOfMemory n h number digest line r bad = tt
+
 -- what a first line tells
 if_shown : (b : Bool) (text : List ℕ) (t : Told) → option_map (λ x. t) (cond b (Some text) None) ≡ cond b (Some t) None
 if_shown true text t = refl
@@ -253,71 +321,140 @@ module _ (n h : ℕ) where
       ap (λ o. option_map (λ noted. told_with (digest_behind t.digest line) t noted) o)
       (and_then_if (bytes_eq (take 17 line) (mark (digest_behind t.digest line))) (text_in line) (noted_of n h))
 
-  -- lines were done, as many as this number; those that are left come after them
-  pub record Doing (ls left : List (List ℕ)) (digest : List ℕ) (number : ℕ) (old now : Recording) : Type 0 where
+  -- lines were done, as many as this number, and of the events that they tell those that are wanted; the other lines come
+  -- after them
+  pub record Doing (most left : Option ℕ) (ls rest : List (List ℕ)) (digest : List ℕ) (number : ℕ) (old now : Recording)
+      : Type 0 where
     pub before : List (List ℕ)
     pub events : List HostEvent
-    pub lines_are : ls ≡ before ++ left
+    pub lines_are : ls ≡ before ++ rest
     pub number_is : number ≡ length before
     pub told : told_of n h before ≡ Some (record { digest = digest; events = events })
-    pub recorded : Records old events now
+    pub left_is : left ≡ left_of most events
+    pub recorded : Records old (first_of most events) now
 
-  pub header_done : (ls left : List (List ℕ)) (line digest : List ℕ) (r : Recording) → ls ≡ line ∷ left
-      → header_told line ≡ Some (record { digest = digest; events = [] }) → Doing ls left digest 1 r r
-  header_done ls left line digest r ls_are is = record {
+  pub header_done : (most : Option ℕ) (ls rest : List (List ℕ)) (line digest : List ℕ) (r : Recording) → ls ≡ line ∷ rest
+      → header_told line ≡ Some (record { digest = digest; events = [] }) → Doing most most ls rest digest 1 r r
+  header_done most ls rest line digest r ls_are is = record {
     before = line ∷ [];
     events = [];
     lines_are = ls_are;
     number_is = refl;
     told = one_told n h (header_told line) ∙ is;
-    recorded = none_recorded r;
+    left_is = left_none most;
+    recorded = subst (λ l. Records r l r) (first_none most) (none_recorded r);
   }
 
-  pub line_done : (ls left rest : List (List ℕ)) (line digest after : List ℕ) (number more : ℕ) (a b c : Recording)
-      → Doing ls left digest number a b → left ≡ line ∷ rest → IsLineDone n h digest line after b c → more ≡ number + 1
-      → Doing ls rest after more a c
-  line_done ls left rest line digest after number more a b c so left_is done more_is =
-      let t : Told = record { digest = digest; events = so.events } in
+  -- what is told once a line was read after those before it
+  read_more : (before : List (List ℕ)) (events : List HostEvent) (line digest after : List ℕ) (noted : Noted)
+      → told_of n h before ≡ Some (record { digest = digest; events = events }) → after ≡ digest_behind digest line
+      → noted_at n h after line ≡ Some noted
+      → told_of n h (before ++ line ∷ []) ≡ Some (record { digest = after; events = events ++ events_of noted })
+  read_more before events line digest after noted told is own =
+      let t : Told = record { digest = digest; events = events } in
+      behind_header n h before line t told ∙ told_by_is t line
+      ∙ ap (λ o. option_map (λ noted. told_with (digest_behind digest line) t noted) o)
+      (ap (λ d. noted_at n h d line) (sym is) ∙ own)
+      ∙ ap (λ d. Some (told_with d t noted)) (sym is)
+
+  one_more : (ls before rest behind : List (List ℕ)) (line : List ℕ) → ls ≡ before ++ rest → rest ≡ line ∷ behind
+      → ls ≡ (before ++ line ∷ []) ++ behind
+  one_more ls before rest behind line ls_are rest_is =
+      ls_are ∙ ap (λ l. before ++ l) rest_is ∙ sym (append_assoc before (line ∷ []) behind)
+
+  pub line_done : (most left later : Option ℕ) (ls rest behind : List (List ℕ)) (line digest after : List ℕ)
+      (number more : ℕ) (noted : Noted) (a b c : Recording)
+      → Doing most left ls rest digest number a b → rest ≡ line ∷ behind → after ≡ digest_behind digest line
+      → noted_at n h after line ≡ Some noted → Records b (first_of left (events_of noted)) c
+      → later ≡ left_of left (events_of noted) → more ≡ number + 1 → Doing most later ls behind after more a c
+  line_done most left later ls rest behind line digest after number more noted a b c so rest_is is own done later_is more_is =
+      let es = events_of noted in
       let count = so.number_is in
-      let own = ap (λ d. noted_at n h d line) (sym done.digest) ∙ done.told in
+      let wanted : first_of most so.events ++ first_of left es ≡ first_of most (so.events ++ es) =
+      ap (λ o. first_of most so.events ++ first_of o es) so.left_is ∙ first_both most so.events es in
       record {
         before = so.before ++ line ∷ [];
-        events = so.events ++ events_of done.noted;
-        lines_are = so.lines_are ∙ ap (λ l. so.before ++ l) left_is ∙ sym (append_assoc so.before (line ∷ []) rest);
+        events = so.events ++ es;
+        lines_are = one_more ls so.before rest behind line so.lines_are rest_is;
         number_is = omega (arith, count, more_is, length-append so.before (line ∷ []));
-        told = behind_header n h so.before line t so.told ∙ told_by_is t line
-            ∙ ap (λ o. option_map (λ noted. told_with (digest_behind digest line) t noted) o) own
-            ∙ ap (λ d. Some (told_with d t done.noted)) (sym done.digest);
-        recorded = then_recorded a b c so.events (events_of done.noted) so.recorded done.recorded;
+        told = read_more so.before so.events line digest after noted so.told is own;
+        left_is = later_is ∙ ap (λ o. left_of o es) so.left_is ∙ left_both most so.events es;
+        recorded = subst (λ l. Records a l c) wanted
+            (then_recorded a b c (first_of most so.events) (first_of left es) so.recorded done);
       }
 
-  pub line_refused : (ls left rest : List (List ℕ)) (line digest : List ℕ) (number more : ℕ) (why : JournalFault)
-      (a b c : Recording) → Doing ls left digest number a b → left ≡ line ∷ rest → more ≡ number + 1
-      → IsLineFault why n h more digest line c → IsJournalFault why n h ls c
-  line_refused ls left rest line digest number more (fault.BadLine k) a b c so left_is more_is bad =
+  -- a line that was not read
+  pub line_refused : (most left : Option ℕ) (ls rest behind : List (List ℕ)) (line digest after : List ℕ) (number more room : ℕ)
+      (why : JournalFault) (a b : Recording) → Doing most left ls rest digest number a b → IsWanted left
+      → rest ≡ line ∷ behind → after ≡ digest_behind digest line → more ≡ number + 1 → IsLineFault why n h more after line
+      → IsJournalFault why most n h ls room
+  line_refused most left ls rest behind line digest after number more room (fault.BadLine k) a b so wanted rest_is is more_is bad =
       let t : Told = record { digest = digest; events = so.events } in
       let count = so.number_is in
       let k_is = bad.0 in
       inr (record {
         before = so.before;
         line = line;
-        rest = rest;
-        lines_are = so.lines_are ∙ ap (λ l. so.before ++ l) left_is;
+        rest = behind;
+        lines_are = so.lines_are ∙ ap (λ l. so.before ++ l) rest_is;
         number_is = omega (arith, count, more_is, k_is);
         told = t;
         before_told = so.told;
+        few = still_few most so.events (subst IsWanted so.left_is wanted);
         refused = told_by_is t line
-            ∙ ap (λ o. option_map (λ noted. told_with (digest_behind digest line) t noted) o) bad.1;
+            ∙ ap (λ o. option_map (λ noted. told_with (digest_behind digest line) t noted) o)
+            (ap (λ d. noted_at n h d line) (sym is) ∙ bad.1);
       })
-  line_refused ls left rest line digest number more fault.TooLong a b c so left_is more_is full = full
-  line_refused ls left rest line digest number more fault.OutOfMemory a b c so left_is more_is out = tt
+  line_refused most left ls rest behind line digest after number more room fault.TooLong a b so wanted rest_is is more_is bad =
+      absurd bad
+  line_refused most left ls rest behind line digest after number more room fault.OutOfMemory a b so wanted rest_is is more_is
+      bad = tt
 
-  pub lines_done : (bytes : List ℕ) (left : List (List ℕ)) (digest : List ℕ) (number : ℕ) (a b : Recording)
-      → Doing (lines bytes) left digest number a b → left ≡ [] → IsReplayed n h bytes a b
+  -- a line that was read, and whose events were not all recorded
+  pub room_refused : (most left : Option ℕ) (ls rest behind : List (List ℕ)) (line digest after : List ℕ) (number : ℕ)
+      (noted : Noted) (why : JournalFault) (a b : Recording) → Doing most left ls rest digest number a b
+      → rest ≡ line ∷ behind → after ≡ digest_behind digest line → noted_at n h after line ≡ Some noted
+      → IsRoomFault why (length (first_of left (events_of noted))) (room_of b) → IsJournalFault why most n h ls (room_of a)
+  room_refused most left ls rest behind line digest after number noted (fault.BadLine k) a b so rest_is is own bad = absurd bad
+  room_refused most left ls rest behind line digest after number noted fault.TooLong a b so rest_is is own bad =
+      let es = events_of noted in
+      let wanted : first_of most so.events ++ first_of left es ≡ first_of most (so.events ++ es) =
+      ap (λ o. first_of most so.events ++ first_of o es) so.left_is ∙ first_both most so.events es in
+      let size = ap length wanted in
+      let made = longer a b (first_of most so.events) so.recorded in
+      let same = so.recorded.capacity in
+      record {
+        read = so.before ++ line ∷ [];
+        rest = behind;
+        lines_are = one_more ls so.before rest behind line so.lines_are rest_is;
+        told = record { digest = after; events = so.events ++ es };
+        told_is = read_more so.before so.events line digest after noted so.told is own;
+        many = omega (arith, bad, size, made, same, length-append (first_of most so.events) (first_of left es));
+      }
+  room_refused most left ls rest behind line digest after number noted fault.OutOfMemory a b so rest_is is own bad = tt
+
+  -- no line is left, or no event is wanted any more
+  pub all_done : (most left : Option ℕ) (bytes : List ℕ) (rest : List (List ℕ)) (digest : List ℕ) (number : ℕ) (a b : Recording)
+      → Doing most left (lines bytes) rest digest number a b → (rest ≡ []) ⊎ (left ≡ Some 0)
+      → IsReplayedTo most n h bytes a b
   unfolding told_in
-  lines_done bytes left digest number a b so none = (
+  all_done None left bytes rest digest number a b so (inl none) = (
     record { digest = digest; events = so.events },
     ap (told_of n h) (so.lines_are ∙ ap (λ l. so.before ++ l) none ∙ append-nil so.before) ∙ so.told,
+    so.recorded,
+  )
+  all_done None left bytes rest digest number a b so (inr spent) = let no : None ≡ Some 0 = sym so.left_is ∙ spent in cc
+  all_done (Some m) left bytes rest digest number a b so end = (
+    take m so.events,
+    record {
+      read = so.before;
+      rest = rest;
+      lines_are = so.lines_are;
+      told = record { digest = digest; events = so.events };
+      told_is = so.told;
+      enough = enough_told m left rest so.events so.left_is end;
+      events_are = refl;
+    },
     so.recorded,
   )
 

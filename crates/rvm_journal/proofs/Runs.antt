@@ -1,5 +1,5 @@
 -- Turns of harts, by the hart of the first turn.
-use Rattle.std.proofs.Common.{◌≡◌, ◌∙◌, ℕ, zero, suc, ◌+◌, ◌%◌, List, ◌∷◌, ◌++◌, Option, None, Some, refl, sym, ap, subst, arith}
+use Rattle.std.proofs.Common.{◌≡◌, ◌∙◌, ℕ, zero, suc, ◌+◌, ◌%◌, min, List, [], ◌∷◌, ◌++◌, length, take, Option, None, Some, refl, sym, ap, subst, arith}
 use Rattle.std.proofs.lemmas.List.{append-nil}
 use native.Mathlib.Nat.{add-mod, mod-add-mod}
 use Rattle.rvm_message.specs.declared.event.HostEvent.{HostEvent}
@@ -71,3 +71,20 @@ pub no_turns : (turn harts : ℕ) (known : Option (List HostEvent)) → with_mor
 unfolding steps_from
 no_turns turn harts None = refl
 no_turns turn harts (Some kept) = ap (λ l. Some l) (append-nil kept)
+
+-- how many turns there are
+pub how_many : (turn harts n : ℕ) → n ≡ length (steps_from turn harts n)
+unfolding steps_from
+how_many turn harts zero = refl
+how_many turn harts (suc n) = ap suc (how_many (turn + 1) harts n)
+
+-- the first of some turns
+pub first_turns : (turn harts n m : ℕ) → steps_from turn harts (min n m) ≡ take m (steps_from turn harts n)
+unfolding steps_from
+first_turns turn harts zero zero = refl
+first_turns turn harts zero (suc m) = let none : min 0 (suc m) ≡ 0 = omega arith in ap (steps_from turn harts) none
+first_turns turn harts (suc n) zero = let none : min (suc n) 0 ≡ 0 = omega arith in ap (steps_from turn harts) none
+first_turns turn harts (suc n) (suc m) =
+    let next : min (suc n) (suc m) ≡ suc (min n m) = omega arith in
+    ap (steps_from turn harts) next
+    ∙ ap (λ l. step_of_hart (turn % harts) ∷ l) (first_turns (turn + 1) harts n m)

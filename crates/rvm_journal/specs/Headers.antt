@@ -1,5 +1,5 @@
 -- The first line of a journal: its text, and what that text tells.
-use Rattle.std.specs.Prelude.{◌<◌, ◌≤◌, ℕ, ◌+◌, ◌-◌, ◌*◌, ◌^◌, ◌==◌, ◌&&◌, nat_le, nat_lt, Bool, true, false, if◌then◌else◌, List, [], ◌∷◌, ◌++◌, take, Option, Some, None, Result, Ok, Err, codes, option_map}
+use Rattle.std.specs.Prelude.{◌<◌, ◌≤◌, ℕ, ◌+◌, ◌-◌, ◌*◌, ◌^◌, ◌==◌, ◌&&◌, nat_le, nat_lt, Bool, true, false, if◌then◌else◌, List, [], ◌∷◌, ◌++◌, take, Option, Some, None, IfSome, Result, Ok, Err, codes, option_map}
 use Rattle.std.specs.Fmt.{decimal}
 use Rattle.std.specs.Str.{bytes_eq}
 use Rattle.hex.specs.Hex.{decode_sized, encode_lower}
@@ -104,9 +104,14 @@ header_in ws =
 unfoldable pub header_of : List ℕ → Option Header
 header_of text = header_in (words text)
 
--- the number of hosts of a header is 2 to 8, and the number of its host is one of theirs
+-- the guest of an image has 1 to 8 harts, and 1 to 4096 pages
+abbrev pub IsSized : Image → Type 0
+IsSized i = (1 ≤ i.harts) × (i.harts ≤ 8) × (1 ≤ i.pages) × (i.pages ≤ 4096)
+
+-- the number of hosts of a header is 2 to 8, the number of its host is one of theirs, and its guest has a size that a board
+-- can have
 abbrev pub IsRanged : Header → Type 0
-IsRanged h = (2 ≤ h.hosts) × (h.hosts ≤ 8) × (h.host < h.hosts)
+IsRanged h = (2 ≤ h.hosts) × (h.hosts ≤ 8) × (h.host < h.hosts) × IfSome h.guest IsSized
 
 -- the header that a first line tells, if the line shows its own digest
 abbrev pub header_in_line : (line : List ℕ) → Option Header

@@ -1,5 +1,6 @@
 -- A journal that is read: a recorded host does what its lines tell.
-use Rattle.std.specs.Prelude.{◌≡◌, ◌⊎◌, ⊤, ℕ, ◌+◌, ◌≤◌, Bool, if◌then◌else◌, List, [], ◌∷◌, ◌++◌, codes, length, map, take, Option, Some, None}
+use Rattle.std.specs.Prelude.{◌≡◌, ◌⊎◌, ⊤, ℕ, ◌+◌, ◌-◌, ◌<◌, ◌≤◌, Bool, if◌then◌else◌, List, [], ◌∷◌, ◌++◌, codes, length, map, take, Option, Some, None}
+use Rattle.std.specs.Fmt.{decimal}
 use Rattle.std.specs.Str.{bytes_eq}
 use Rattle.rvm_debug.specs.Words.{lines}
 use Rattle.rvm_message.specs.declared.event.HostEvent.{HostEvent}
@@ -27,6 +28,25 @@ last_of line (l ∷ ls) = last_of l ls
 abbrev pub is_whole : (bytes : List ℕ) → Bool
 is_whole bytes = bytes_eq (text_in (last_of [] (lines bytes))) (codes "end")
 
+-- the first of some events: at most this many, or all of them
+abbrev pub first_of : (most : Option ℕ) → List HostEvent → List HostEvent
+first_of None es = es
+first_of (Some n) es = take n es
+
+-- how many more events are wanted after these
+abbrev pub left_of : (most : Option ℕ) → List HostEvent → Option ℕ
+left_of None es = None
+left_of (Some n) es = Some (n - length es)
+
+-- these events are fewer than are wanted
+abbrev pub AreFewer : (most : Option ℕ) → List HostEvent → Type 0
+AreFewer None es = ⊤
+AreFewer (Some n) es = length es < n
+
+-- an event is wanted
+abbrev pub IsWanted : (most : Option ℕ) → Type 0
+IsWanted most = AreFewer most []
+
 -- these events were recorded, in order, after those that were there; the host with which the journal opened and the
 -- number of entries that it takes are as they were
 pub record Records (old : Recording) (es : List HostEvent) (new : Recording) : Type 0 where
@@ -38,13 +58,23 @@ pub record Records (old : Recording) (es : List HostEvent) (new : Recording) : T
 abbrev pub HasMore : (old new : Recording) → Type 0
 HasMore old new = (events : List HostEvent) × Records old events new
 
+-- how many more entries a recorder takes
+abbrev pub room_of : Recording → ℕ
+room_of r = r.capacity - count_of r
+
 -- the recorder takes no more entries, if an event was refused for that
 abbrev pub IsFull : RecordError → Recording → Type 0
 IsFull record_error.OutOfMemory r = ⊤
 IsFull (record_error.RecorderFull c) r = count_of r ≡ r.capacity
 
--- the lines before the one with this number, from 1, tell something, and that line does not
-pub record IsBadLine (hosts host : ℕ) (ls : List (List ℕ)) (number : ℕ) : Type 0 where
+-- the recorder had no room for this many entries, if they were refused for that
+abbrev pub LacksRoom : RecordError → Recording → (count : ℕ) → Type 0
+LacksRoom record_error.OutOfMemory r n = ⊤
+LacksRoom (record_error.RecorderFull c) r n = room_of r < n
+
+-- the lines before the one with this number, from 1, tell something, and fewer events than are wanted, and that line tells
+-- nothing
+pub record IsBadLine (most : Option ℕ) (hosts host : ℕ) (ls : List (List ℕ)) (number : ℕ) : Type 0 where
   pub before : List (List ℕ)
   pub line : List ℕ
   pub rest : List (List ℕ)
@@ -52,6 +82,7 @@ pub record IsBadLine (hosts host : ℕ) (ls : List (List ℕ)) (number : ℕ) : 
   pub number_is : number ≡ length before + 1
   pub told : Told
   pub before_told : told_of hosts host before ≡ Some told
+  pub few : AreFewer most told.events
   pub refused : told_by hosts host told line ≡ None
 
 -- there is no first line, or it does not show its own digest
@@ -59,19 +90,56 @@ abbrev pub LacksHeader : (ls : List (List ℕ)) → Type 0
 LacksHeader [] = ⊤
 LacksHeader (first ∷ ls) = header_told first ≡ None
 
--- the first line that tells nothing has this number
-abbrev pub IsFirstBad : (hosts host : ℕ) → (ls : List (List ℕ)) → (number : ℕ) → Type 0
-IsFirstBad n h ls number = ((number ≡ 1) × LacksHeader ls) ⊎ IsBadLine n h ls number
+-- the first line that tells nothing has this number, and the lines before it tell fewer events than are wanted
+abbrev pub IsFirstBad : (most : Option ℕ) → (hosts host : ℕ) → (ls : List (List ℕ)) → (number : ℕ) → Type 0
+IsFirstBad most n h ls number = ((number ≡ 1) × LacksHeader ls) ⊎ IsBadLine most n h ls number
 
--- why not all lines of a journal were done: the first that tells nothing, or no place for another entry
-abbrev pub IsJournalFault : JournalFault → (hosts host : ℕ) → (ls : List (List ℕ)) → Recording → Type 0
-IsJournalFault (BadLine number) n h ls r = IsFirstBad n h ls number
-IsJournalFault TooLong n h ls r = count_of r ≡ r.capacity
-IsJournalFault OutOfMemory n h ls r = ⊤
+-- first lines of a journal tell more events that are wanted than there is room for
+pub record IsTooLong (most : Option ℕ) (hosts host : ℕ) (ls : List (List ℕ)) (room : ℕ) : Type 0 where
+  pub read : List (List ℕ)
+  pub rest : List (List ℕ)
+  pub lines_are : ls ≡ read ++ rest
+  pub told : Told
+  pub told_is : told_of hosts host read ≡ Some told
+  pub many : room < length (first_of most told.events)
+
+-- what is reported of a fault
+abbrev pub fault_text : JournalFault → List ℕ
+fault_text OutOfMemory = codes "out of memory"
+fault_text TooLong = codes "more than 4294967295 events"
+fault_text (BadLine number) = codes "line " ++ decimal number ++ codes ": no line of this journal"
+
+-- why not all events that are wanted of a journal were done: the first line that tells nothing, or too little room
+abbrev pub IsJournalFault : JournalFault → (most : Option ℕ) → (hosts host : ℕ) → (ls : List (List ℕ)) → (room : ℕ) → Type 0
+IsJournalFault (BadLine number) most n h ls room = IsFirstBad most n h ls number
+IsJournalFault TooLong most n h ls room = IsTooLong most n h ls room
+IsJournalFault OutOfMemory most n h ls room = ⊤
+
+-- the recorder takes no more entries, if a journal was too long for it
+abbrev pub IsSpent : JournalFault → Recording → Type 0
+IsSpent (BadLine number) r = ⊤
+IsSpent TooLong r = count_of r ≡ r.capacity
+IsSpent OutOfMemory r = ⊤
 
 -- all lines of a journal were done: what they tell was recorded
 abbrev pub IsReplayed : (hosts host : ℕ) → (bytes : List ℕ) → (old new : Recording) → Type 0
 IsReplayed n h bytes old new = (t : Told) × (told_in n h bytes ≡ Some t) × Records old t.events new
+
+-- these are the first events that a journal tells: this many, by its first lines, or all of them, if it tells no more
+pub record AreFirstTold (most hosts host : ℕ) (bytes : List ℕ) (events : List HostEvent) : Type 0 where
+  pub read : List (List ℕ)
+  pub rest : List (List ℕ)
+  pub lines_are : lines bytes ≡ read ++ rest
+  pub told : Told
+  pub told_is : told_of hosts host read ≡ Some told
+  pub enough : (rest ≡ []) ⊎ (most ≤ length told.events)
+  pub events_are : events ≡ take most told.events
+
+-- the events of a journal that are wanted were done: the first, or those of all lines
+abbrev pub IsReplayedTo : (most : Option ℕ) → (hosts host : ℕ) → (bytes : List ℕ) → (old new : Recording) → Type 0
+IsReplayedTo None n h bytes old new = IsReplayed n h bytes old new
+IsReplayedTo (Some m) n h bytes old new =
+    (events : List HostEvent) × AreFirstTold m n h bytes events × Records old events new
 
 -- the harts of turns are 1 to 8
 abbrev pub HasHarts : Noted → Type 0
@@ -84,16 +152,14 @@ HasHarts End = ⊤
 abbrev pub noted_at : (hosts host : ℕ) → (digest line : List ℕ) → Option Noted
 noted_at n h d line = if bytes_eq (take 17 line) (mark d) then noted_of n h (text_in line) else None
 
--- a line was done after one with digest `before`: its own digest is `after`, and what its text tells was recorded
-pub record IsLineDone (hosts host : ℕ) (before line after : List ℕ) (old new : Recording) : Type 0 where
-  pub digest : after ≡ digest_behind before line
-  pub noted : Noted
-  pub told : noted_at hosts host after line ≡ Some noted
-  pub recorded : Records old (events_of noted) new
+-- why a line with this number and digest was not read: it tells nothing, or memory ran out
+abbrev pub IsLineFault : JournalFault → (hosts host number : ℕ) → (digest line : List ℕ) → Type 0
+IsLineFault (BadLine k) n h number d line = (k ≡ number) × (noted_at n h d line ≡ None)
+IsLineFault TooLong n h number d line = ⊥
+IsLineFault OutOfMemory n h number d line = ⊤
 
--- why the line with this number was not done after one with digest `before`: it tells nothing, or there was no place for
--- another entry
-abbrev pub IsLineFault : JournalFault → (hosts host number : ℕ) → (before line : List ℕ) → Recording → Type 0
-IsLineFault (BadLine k) n h number before line r = (k ≡ number) × (noted_at n h (digest_behind before line) line ≡ None)
-IsLineFault TooLong n h number before line r = count_of r ≡ r.capacity
-IsLineFault OutOfMemory n h number before line r = ⊤
+-- why not so many events of a line were done: too little room, or memory ran out
+abbrev pub IsRoomFault : JournalFault → (count room : ℕ) → Type 0
+IsRoomFault (BadLine k) count room = ⊥
+IsRoomFault TooLong count room = room < count
+IsRoomFault OutOfMemory count room = ⊤

@@ -4,7 +4,7 @@ ghost use Rattle.std.specs.Prelude.{◌≡◌, ◌≤◌, IfOk, IfSome, MatchOpt
 ghost use Rattle.std.specs.Io.KnownBytes.{Appends};
 ghost use Rattle.hex.specs.Hex.{decode_sized};
 ghost use Rattle.sha2.specs.Sha256.{sha256};
-ghost use Rattle.rvm_journal.specs.Headers.{IsRanged, digest_if, field, form_of, guest_in, guest_text, header_of, image_in, long_in, no_guest_in, ranged, text_of};
+ghost use Rattle.rvm_journal.specs.Headers.{IsRanged, IsSized, digest_if, field, form_of, guest_in, guest_text, header_of, image_in, long_in, no_guest_in, ranged, text_of};
 
 use hex::decode_to_slice;
 use rvm_debug::Words;
@@ -132,7 +132,8 @@ fn long_in(word: &[u8]) -> Option<u64>
 
 /// The guest that the last words of a header name.
 fn guest_in(words: Words) -> Option<Option<Image>>
-    ensures { result ≡ guest_in words.entry }
+    ensures guest { result ≡ guest_in words.entry }
+    ensures size { IfSome result (λ guest. IfSome guest IsSized) }
 {
     let mut words = words;
     let word = words.next()?;
@@ -147,7 +148,8 @@ fn guest_in(words: Words) -> Option<Option<Image>>
 
 /// No guest, by the only word after `without`.
 fn no_guest_in(words: Words) -> Option<Option<Image>>
-    ensures { result ≡ no_guest_in words.entry }
+    ensures guest { result ≡ no_guest_in words.entry }
+    ensures size { IfSome result (λ guest. IfSome guest IsSized) }
 {
     let mut words = words;
     let word = words.next()?;
@@ -160,7 +162,8 @@ fn no_guest_in(words: Words) -> Option<Option<Image>>
 
 /// The image that words name: its form, the number of harts and of pages, and its digest.
 fn image_in(words: Words) -> Option<Image>
-    ensures { result ≡ image_in words.entry }
+    ensures image { result ≡ image_in words.entry }
+    ensures size { IfSome result IsSized }
 {
     let mut words = words;
     let form = words.next()?;

@@ -1,12 +1,13 @@
 //! What the lines of a journal tell.
 
-ghost use Rattle.std.specs.Prelude.{◌≡◌, IfOk, Ok, Some, option_map};
+ghost use Rattle.std.specs.Prelude.{◌≡◌, IfOk, Ok, Some, length, option_map};
 ghost use Rattle.hex.specs.Hex.{decode_of};
 ghost use Rattle.rvm_core.specs.WorldLines.{world_line_of};
 ghost use Rattle.rvm_core.specs.declared.world_line.WorldLine.TheVariants as line;
 ghost use Rattle.rvm_debug.specs.declared.line.Line.TheVariants as guest;
 ghost use Rattle.rvm_frame.specs.Verdict.{one_frame_of, verdict};
-ghost use Rattle.rvm_journal.specs.Noting.{bytes_noted, came_noted, command_in, commanded, end_noted, event_in, frame_noted, noted_of, run_of, target_of, turns_noted};
+ghost use Rattle.rvm_journal.specs.Noting.{bytes_noted, came_noted, command_in, commanded, end_noted, event_in, events_of, frame_noted, noted_of, run_of, target_of, turns_noted};
+ghost use Rattle.rvm_journal.specs.Replaying.{HasHarts, IsWanted, first_of};
 ghost use Rattle.rvm_journal.specs.declared.noted.Noted.TheVariants.{Command as Commanded};
 
 use crate::run::Run;
@@ -60,6 +61,33 @@ impl Noted {
             return Ok(end(words));
         }
         Ok(command_of_line(hosts, host, text))
+    }
+
+    /// The number of events that this tells.
+    #[tactic(auto, using(crate::proofs::Runs::how_many))]
+    pub(crate) fn count(&self) -> u32
+        ensures { result ≡ length (events_of self.now) }
+    {
+        match self {
+            Noted::Turns(run) => run.count,
+            Noted::Command(_) | Noted::Came { .. } => 1,
+            Noted::End => 0,
+        }
+    }
+
+    /// What tells the first of the events that this tells: as many as are wanted, which is one or more, or all.
+    #[tactic(auto, using(crate::proofs::Replayed::first_none, crate::proofs::Replayed::first_one))]
+    pub(crate) fn up_to(self, most: Option<u32>) -> Noted
+        requires { IsWanted most }
+        ensures events { events_of result ≡ first_of most (events_of self) }
+        ensures harts { HasHarts self → HasHarts result }
+    {
+        match self {
+            Noted::Turns(run) => Noted::Turns(run.up_to(most)),
+            Noted::Command(command) => Noted::Command(command),
+            Noted::Came { from, frame } => Noted::Came { from, frame },
+            Noted::End => Noted::End,
+        }
     }
 }
 

@@ -1,13 +1,13 @@
 //! Has a recorded host do what a journal tells.
 
-ghost use Rattle.std.specs.Prelude.{◌≡◌, ◌+◌, ◌%◌, ◌<◌, ◌≤◌, ◌∷◌, [], take, IfErr, IfOk, IfSome, MatchOption, None, OnErr, OnOk, Some};
+ghost use Rattle.std.specs.Prelude.{◌≡◌, ◌+◌, ◌%◌, ◌<◌, ◌≤◌, ◌∷◌, [], false, length, take, true, IfErr, IfOk, IfSome, MatchOption, None, OnErr, OnOk, Some};
 ghost use Rattle.std.specs.Str.{bytes_eq};
 ghost use Rattle.rvm_cell.specs.Logs.{steps_from};
 ghost use Rattle.rvm_debug.specs.Words.{lines};
 ghost use Rattle.rvm_message.specs.declared.event.HostEvent.TheVariants.{Came};
 ghost use Rattle.rvm_journal.specs.Headers.{IsRanged, header_at, header_in_line};
 ghost use Rattle.rvm_journal.specs.Noting.{events_of};
-ghost use Rattle.rvm_journal.specs.Replaying.{HasHarts, HasMore, IsFull, IsJournalFault, IsLineDone, IsLineFault, IsReplayed, Records, is_whole, last_of, noted_at};
+ghost use Rattle.rvm_journal.specs.Replaying.{HasHarts, HasMore, IsFull, IsJournalFault, IsLineFault, IsReplayedTo, IsRoomFault, IsSpent, IsWanted, LacksRoom, Records, first_of, is_whole, last_of, left_of, noted_at, room_of};
 ghost use Rattle.rvm_journal.specs.Told.{header_told, mark, text_in};
 
 use crate::digest::{LineDigest, MARK};
@@ -21,36 +21,54 @@ use rvm_mem::PagedMemory;
 use rvm_message::{HostEvent, Shared};
 use rvm_recorder::{MAX_SLICE, RecordError, Recorded, SliceError};
 use std::alloc::{AllocError, Global};
-use thiserror::Error;
+use std::fmt;
 
-/// Why not all that a journal tells was done.
-#[derive(Clone, Copy, Debug, PartialEq, Eq, Error)]
+/// Why not all that is wanted of a journal was done.
+#[derive(Clone, Copy, Debug, PartialEq, Eq)]
 pub enum JournalFault {
     /// Memory ran out.
-    #[error("out of memory")]
     OutOfMemory,
     /// The journal tells more events than can be counted.
-    #[error("more than 4294967295 events")]
     TooLong,
     /// The line with this number, from 1, does not show the digest of all lines up to it, or its text tells nothing; of a
     /// journal without a line, 1.
-    #[error("line {0}: no line of this journal")]
     BadLine(usize),
 }
 
-/// Has a recorded host do what the journal of host `host` of this many hosts tells, which has these bytes: all lines after
-/// the first, which is the header's, in order. Fails with `BadLine` at the first line that does not show the digest of all
-/// lines up to it, or whose text tells nothing; with `TooLong` if the recorder takes no more entries; with `OutOfMemory` if
-/// memory runs out. What the lines before tell has been recorded then.
+/// What is reported of a fault.
+impl fmt::Display for JournalFault {
+    ghost use Rattle.std.specs.Prelude.{Some};
+    ghost use Rattle.rvm_journal.specs.Replaying.{fault_text};
+
+    ghost output = { λ fault. Some (fault_text fault) };
+
+    fn fmt<W: fmt::Write>(&self, f: &mut fmt::Formatter<W>) -> fmt::Result {
+        match *self {
+            JournalFault::OutOfMemory => write!(f, "out of memory"),
+            JournalFault::TooLong => write!(f, "more than 4294967295 events"),
+            JournalFault::BadLine(number) => write!(f, "line {number}: no line of this journal"),
+        }
+    }
+}
+
+/// Has a recorded host do what the journal of host `host` of this many hosts tells, which has these bytes: the events that
+/// the lines after the first tell, which is the header's, in order, up to `most` of them, or all. No line is looked at after
+/// these events, and the last line that is looked at may tell more of them.
+///
+/// Fails with `BadLine` at the first line that does not show the digest of all lines up to it, or whose text tells nothing;
+/// with `TooLong` if the recorder takes no more entries; with `OutOfMemory` if memory runs out. What the lines before tell
+/// has been recorded then.
 pub fn replay_journal<M: PagedMemory + Drop>(
     alloc: Global,
     hosts: u8,
     host: u8,
     bytes: &[u8],
+    most: Option<u32>,
     recorded: &mut Recorded<M>,
 ) -> Result<(), JournalFault>
-    ensures told { OnOk result (IsReplayed hosts host bytes.now recorded.old recorded.new) }
-    ensures fault { IfErr result (λ why. IsJournalFault why hosts host (lines bytes.now) recorded.new) }
+    ensures told { OnOk result (IsReplayedTo most hosts host bytes.now recorded.old recorded.new) }
+    ensures fault { IfErr result (λ why. IsJournalFault why most hosts host (lines bytes.now) (room_of recorded.old)) }
+    ensures spent { IfErr result (λ why. IsSpent why recorded.new) }
     ensures more { OnErr result (HasMore recorded.old recorded.new) }
 {
     if bytes.is_empty() {
@@ -62,13 +80,27 @@ pub fn replay_journal<M: PagedMemory + Drop>(
         None => return Err(JournalFault::BadLine(1)),
     };
     let mut number = 1;
-    while !rest.is_empty() {
+    let mut left = most;
+    while !rest.is_empty() && is_wanted(left) {
         let (line, behind) = split_line(rest);
         number += 1;
-        digest = do_line(alloc, hosts, host, number, &digest, line, recorded)?;
+        digest = digest.after(text_in(line));
+        let noted = read_line(alloc, hosts, host, number, &digest, line)?;
+        left = do_first(alloc, noted, left, recorded)?;
         rest = behind;
     }
     Ok(())
+}
+
+/// Whether another event is wanted.
+fn is_wanted(left: Option<u32>) -> bool
+    ensures wanted { result ≡ true → IsWanted left }
+    ensures none { result ≡ false → left ≡ Some 0 }
+{
+    match left {
+        Some(left) => left > 0,
+        None => true,
+    }
 }
 
 /// The digest of the first line of a journal. None if the line does not show it.
@@ -131,39 +163,31 @@ fn header_in_line(line: &[u8]) -> Option<Header>
     }
 }
 
-/// Has a recorded host do what a line tells, which has this number and comes after one with digest `before`. Returns the
-/// line's own digest.
-fn do_line<M: PagedMemory + Drop>(
+/// What the line with this number tells, which is to show this digest.
+fn read_line(
     alloc: Global,
     hosts: u8,
     host: u8,
     number: usize,
-    before: &LineDigest,
+    digest: &LineDigest,
     line: &[u8],
-    recorded: &mut Recorded<M>,
-) -> Result<LineDigest, JournalFault>
-    ensures done { IfOk result (λ after. IsLineDone hosts host before.now.bytes line.now after.bytes
-        recorded.old recorded.new) }
-    ensures fault { IfErr result (λ why. IsLineFault why hosts host number before.now.bytes line.now recorded.new) }
-    ensures more { OnErr result (HasMore recorded.old recorded.new) }
+) -> Result<Noted, JournalFault>
+    ensures noted { IfOk result (λ noted. noted_at hosts host digest.now.bytes line.now ≡ Some noted) }
+    ensures harts { IfOk result HasHarts }
+    ensures fault { IfErr result (λ why. IsLineFault why hosts host number digest.now.bytes line.now) }
 {
-    let after = before.after(text_in(line));
-    let Ok(noted) = read_line(alloc, hosts, host, &after, line) else {
+    let Ok(noted) = noted_in(alloc, hosts, host, digest, line) else {
         return Err(JournalFault::OutOfMemory);
     };
-    let Some(noted) = noted else {
-        return Err(JournalFault::BadLine(number));
-    };
-    match do_noted(alloc, noted, recorded) {
-        Ok(()) => Ok(after),
-        Err(RecordError::OutOfMemory) => Err(JournalFault::OutOfMemory),
-        Err(RecordError::RecorderFull(_)) => Err(JournalFault::TooLong),
+    match noted {
+        Some(noted) => Ok(noted),
+        None => Err(JournalFault::BadLine(number)),
     }
 }
 
 /// What the text of a line tells. None if the line does not show this digest, or if its text tells nothing.
 #[tactic(auto, using(crate::proofs::Replayed::harts_of_noted))]
-fn read_line(
+fn noted_in(
     alloc: Global,
     hosts: u8,
     host: u8,
@@ -197,6 +221,40 @@ fn text_in(line: &[u8]) -> &[u8]
     &line[line.len().min(MARK)..]
 }
 
+/// Has a recorded host do the events that a line tells, up to as many as are wanted, one or more, or all. Returns how many
+/// are wanted after the line.
+fn do_first<M: PagedMemory + Drop>(
+    alloc: Global,
+    noted: Noted,
+    left: Option<u32>,
+    recorded: &mut Recorded<M>,
+) -> Result<Option<u32>, JournalFault>
+    requires harts { HasHarts noted }
+    requires wanted { IsWanted left }
+    ensures done { OnOk result (Records recorded.old (first_of left (events_of noted)) recorded.new) }
+    ensures left { IfOk result (λ after. after ≡ left_of left (events_of noted)) }
+    ensures room { IfErr result (λ why. IsRoomFault why (length (first_of left (events_of noted))) (room_of recorded.old)) }
+    ensures spent { IfErr result (λ why. IsSpent why recorded.new) }
+    ensures more { OnErr result (HasMore recorded.old recorded.new) }
+{
+    let after = left_after(left, &noted);
+    match do_noted(alloc, noted.up_to(left), recorded) {
+        Ok(()) => Ok(after),
+        Err(RecordError::OutOfMemory) => Err(JournalFault::OutOfMemory),
+        Err(RecordError::RecorderFull(_)) => Err(JournalFault::TooLong),
+    }
+}
+
+/// How many events are wanted after those that a line tells.
+fn left_after(left: Option<u32>, noted: &Noted) -> Option<u32>
+    ensures { result ≡ left_of left (events_of noted.now) }
+{
+    match left {
+        Some(left) => Some(left.saturating_sub(noted.count())),
+        None => None,
+    }
+}
+
 /// Has a recorded host do what a line tells. Fails if memory runs out, or if the recorder takes no more entries.
 #[tactic(auto, using(crate::proofs::Replayed::none_recorded))]
 fn do_noted<M: PagedMemory + Drop>(
@@ -206,6 +264,7 @@ fn do_noted<M: PagedMemory + Drop>(
 ) -> Result<(), RecordError>
     requires { HasHarts noted }
     ensures done { OnOk result (Records recorded.old (events_of noted) recorded.new) }
+    ensures room { IfErr result (λ why. LacksRoom why recorded.old (length (events_of noted))) }
     ensures full { IfErr result (λ why. IsFull why recorded.new) }
     ensures more { OnErr result (HasMore recorded.old recorded.new) }
 {
@@ -225,6 +284,7 @@ fn do_came<M: PagedMemory + Drop>(
     recorded: &mut Recorded<M>,
 ) -> Result<(), RecordError>
     ensures done { OnOk result (Records recorded.old (Came from frame ∷ []) recorded.new) }
+    ensures room { IfErr result (λ why. LacksRoom why recorded.old 1) }
     ensures full { IfErr result (λ why. IsFull why recorded.new) }
     ensures same { OnErr result (recorded.new ≡ recorded.old) }
 {
@@ -242,6 +302,7 @@ fn do_event<M: PagedMemory + Drop>(
     recorded: &mut Recorded<M>,
 ) -> Result<(), RecordError>
     ensures done { OnOk result (Records recorded.old (event ∷ []) recorded.new) }
+    ensures room { IfErr result (λ why. LacksRoom why recorded.old 1) }
     ensures full { IfErr result (λ why. IsFull why recorded.new) }
     ensures same { OnErr result (recorded.new ≡ recorded.old) }
 {
@@ -260,6 +321,7 @@ fn do_turns<M: PagedMemory + Drop>(
 ) -> Result<(), RecordError>
     requires { (1 ≤ run.harts) × (run.harts ≤ 8) }
     ensures done { OnOk result (Records recorded.old (steps_from run.first run.harts run.count) recorded.new) }
+    ensures room { IfErr result (λ why. LacksRoom why recorded.old (length (steps_from run.first run.harts run.count))) }
     ensures full { IfErr result (λ why. IsFull why recorded.new) }
     ensures more { OnErr result (HasMore recorded.old recorded.new) }
 {
@@ -287,6 +349,7 @@ fn do_slice<M: PagedMemory + Drop>(
     requires some { 1 ≤ count }
     ensures done { IfOk result (λ made. Records recorded.old (steps_from turn harts made) recorded.new) }
     ensures some { IfOk result (λ made. (1 ≤ made) × (made ≤ count)) }
+    ensures room { IfErr result (λ why. LacksRoom why recorded.old 1) }
     ensures full { IfErr result (λ why. IsFull why recorded.new) }
     ensures same { OnErr result (recorded.new ≡ recorded.old) }
 {

@@ -2,6 +2,7 @@
 
 ghost use Rattle.std.specs.Prelude.{◌≡◌, ◌%◌, ◌+◌, ◌++◌, ◌<◌, ◌≤◌, IfSome};
 ghost use Rattle.rvm_cell.specs.Logs.{steps_from};
+ghost use Rattle.rvm_journal.specs.Replaying.{first_of};
 
 /// Consecutive turns: so many steps of 1 to 8 harts, one after the other, the first by hart `first`.
 #[derive(Clone, Copy, Debug, PartialEq, Eq)]
@@ -41,6 +42,23 @@ impl Run {
             harts: self.harts,
             count,
         })
+    }
+
+    /// The first of these turns: at most this many, or all.
+    #[tactic(auto, using(crate::proofs::Runs::first_turns))]
+    pub(crate) fn up_to(self, most: Option<u32>) -> Run
+        ensures turns { steps_from result.first result.harts result.count
+            ≡ first_of most (steps_from self.first self.harts self.count) }
+        ensures harts { result.harts ≡ self.harts }
+    {
+        match most {
+            Some(most) => Run {
+                first: self.first,
+                harts: self.harts,
+                count: self.count.min(most),
+            },
+            None => self,
+        }
     }
 
     /// The hart whose turn it is after these; none if there are no harts.
