@@ -16,12 +16,14 @@ use Rattle.rvm_elf.proofs.Loaded.{Inside, inside}
 use Rattle.rvm_hart.specs.Bus.{ram_base}
 use Rattle.rvm_command.specs.Command.{FileImage, before_word}
 use Rattle.rvm_command.specs.Ends.{IsLoadable}
-use Rattle.rvm_command.specs.Counting.{AreRuns, Covers, is_coverage, is_covered, has_place, noted, number_at, one_more, place_of, written_report, written_text}
+use Rattle.rvm_command.specs.Counting.{AreRuns, Covers, wants_counts, is_counted, has_place, noted, number_at, one_more, place_of, written_report, written_text}
 use Rattle.rvm_command.specs.Coverage.{counted_line, counted_lines, counted_listing, coverage, has_run, in_ten, ran_at, runs_at}
 use Rattle.rvm_arguments.specs.declared.arguments.Report.{Report}
-use Rattle.rvm_arguments.specs.declared.arguments.Report.TheVariants.{Coverage, Signature}
+use Rattle.rvm_arguments.specs.declared.arguments.Report.TheVariants.{Coverage, Profile, Signature}
 use Rattle.rvm_arguments.specs.declared.arguments.ReportArguments.{ReportArguments}
+use Rattle.rvm_command.proofs.Profiling.{profiled}
 use Rattle.rvm_command.specs.Reports.{report_text, reported}
+use Rattle.rvm_command.specs.SymbolLines.{symbols_of}
 use Rattle.rvm_command.specs.Taken.{Taken}
 use Rattle.rvm_command.specs.Watched.{Watched}
 
@@ -292,23 +294,25 @@ right_aligned n =
 
 -- ---- the report
 
-report_by : (asked : Report) (segments : List Segment) (pieces : List Piece) (counts old : List ℕ) (r : Watched)
-    → length counts ≡ length old → AreRuns counts r.steps → (is_coverage asked ≡ true → Covers old segments pieces)
-    → written_report asked (pieces_of segments) counts r.guest ≡ reported asked pieces r
-report_by (Signature range) segments pieces counts old r same are covers = refl
-report_by Coverage segments pieces counts old r same are covers =
+report_by : (asked : Report) (segments : List Segment) (pages : ℕ) (pieces : List Piece) (symbols counts old : List ℕ) (r : Watched)
+    → length counts ≡ length old → AreRuns counts r.steps → (wants_counts asked ≡ true → Covers pages old segments pieces)
+    → written_report asked (pieces_of segments) symbols counts r.guest ≡ reported asked pages pieces symbols r
+report_by (Signature range) segments pages pieces symbols counts old r same are covers = refl
+report_by Coverage segments pages pieces symbols counts old r same are covers =
     let c = covers refl in
     ap (counted_listing (number_at counts)) c.listed
     ∙ covered counts r.steps are (omega (arith, same, c.few)) pieces
     (subst (λ n. pieces_fit pieces (4 * n) ≡ true) (sym same) c.inside)
+report_by (Profile file) segments pages pieces symbols counts old r same are covers =
+    let c = covers refl in profiled counts r.steps pages (symbols_of symbols) are (same ∙ c.size)
 
 -- what was written of a report by the numbers is the report
-pub report_is : (asked : Option ReportArguments) (segments : List Segment) (pieces : List Piece) (counts old : List ℕ) (r : Watched)
-    → length counts ≡ length old → AreRuns counts r.steps → (is_covered asked ≡ true → Covers old segments pieces)
-    → written_text asked (pieces_of segments) counts r.guest ≡ report_text asked pieces r
-report_is None segments pieces counts old r same are covers = refl
-report_is (Some asked) segments pieces counts old r same are covers =
-    report_by asked.report segments pieces counts old r same are covers
+pub report_is : (asked : Option ReportArguments) (segments : List Segment) (pages : ℕ) (pieces : List Piece) (symbols counts old : List ℕ) (r : Watched)
+    → length counts ≡ length old → AreRuns counts r.steps → (is_counted asked ≡ true → Covers pages old segments pieces)
+    → written_text asked (pieces_of segments) symbols counts r.guest ≡ report_text asked pages pieces symbols r
+report_is None segments pages pieces symbols counts old r same are covers = refl
+report_is (Some asked) segments pages pieces symbols counts old r same are covers =
+    report_by asked.report segments pages pieces symbols counts old r same are covers
 
 -- the third of three tests
 third_of : (x y z : Bool) → (x && y && z) ≡ true → z ≡ true
@@ -319,7 +323,7 @@ third_of false y z e = absurd cc
 -- what is kept of an image that lies in RAM
 pub keeps : (image : FileImage) (entry : ℕ) (segments : List Segment) (pages : ℕ) (counts : List ℕ)
     → image ≡ Ok (entry, pieces_of segments) → IsLoadable image pages → counts ≡ replicate (1024 * pages) 0 → pages ≤ 4096
-    → IfOk image (λ i. Covers counts segments i.1)
+    → IfOk image (λ i. Covers pages counts segments i.1)
 keeps (Err e) entry segments pages counts same loadable zeros few = tt
 keeps (Ok i) entry segments pages counts same loadable zeros few =
     let size : length counts ≡ 1024 * pages = ap length zeros ∙ length-replicate (1024 * pages) 0 in
@@ -327,6 +331,7 @@ keeps (Ok i) entry segments pages counts same loadable zeros few =
     let listed : i ≡ (entry, pieces_of segments) = cc in
     record {
       listed = sym (ap (λ (x : ℕ × List Piece). x.1) listed);
+      size = size;
       few = omega (arith, size, few);
       inside = subst (λ n. pieces_fit i.1 n ≡ true) all
           (third_of (i.0 % 4 == 0) (is_within 1 i.0 (4096 * pages)) (pieces_fit i.1 (4096 * pages)) loadable.0);

@@ -118,24 +118,24 @@ if_ok (Ok x) P Q f p = f x p
 if_ok (Err e) P Q f p = tt
 
 -- how a run ended that was given the bytes of its input that its turns can take, so it ends with all of them
-pub ends_so : (a : RunArguments) (file begun input : List ℕ) (end : Result Ended Refused) (before after trace_before trace_after report_before report_after : Option (List ℕ))
-    → begun ≡ take a.steps input → IsRunEnd a file begun end before after trace_before trace_after report_before report_after
-    → IsRunEnd a file input end before after trace_before trace_after report_before report_after
-ends_so a file begun input (Ok ended) before after trace_before trace_after report_before report_after is (loadable, came) = (
-  loadable,
+pub ends_so : (a : RunArguments) (file begun input symbols : List ℕ) (end : Result Ended Refused) (before after trace_before trace_after report_before report_after : Option (List ℕ))
+    → begun ≡ take a.steps input → IsRunEnd a file begun symbols end before after trace_before trace_after report_before report_after
+    → IsRunEnd a file input symbols end before after trace_before trace_after report_before report_after
+ends_so a file begun input symbols (Ok ended) before after trace_before trace_after report_before report_after is (begun_so, came) = (
+  begun_so,
   if_ok (image_of a.guest.raw file) _ _ (λ i came.
       let same = same_watched a.stop_at_fault (traced_of a.trace) a.steps begun input (guest_of a.guest.harts a.guest.pages i.0 i.1) is in (
         came.0 ∙ ap (λ (r : Watched). r.ended) same,
         subst (Appends before after) (ap (λ (r : Watched). r.written) same) came.1,
         subst (λ (l : List (List ℕ)). Appends trace_before trace_after (concat l)) (ap (λ (r : Watched). r.lines) same) came.2,
-        subst (λ (r : Watched). Appends report_before report_after (report_text a.report i.1 r)) same came.3,
+        subst (λ (r : Watched). Appends report_before report_after (report_text a.report a.guest.pages i.1 symbols r)) same came.3,
       )) came,
 )
-ends_so a file begun input (Err r) before after trace_before trace_after report_before report_after is (inl refused) = inl refused
-ends_so a file begun input (Err r) before after trace_before trace_after report_before report_after is (inr (failed, loadable, came)) =
+ends_so a file begun input symbols (Err r) before after trace_before trace_after report_before report_after is (inl refused) = inl refused
+ends_so a file begun input symbols (Err r) before after trace_before trace_after report_before report_after is (inr (failed, begun_so, came)) =
     inr (
       failed,
-      loadable,
+      begun_so,
       if_ok (image_of a.guest.raw file) _ _ (λ i some.
           let same = same_watched a.stop_at_fault (traced_of a.trace) a.steps begun input (guest_of a.guest.harts a.guest.pages i.0 i.1) is in
           subst (λ (r : Watched). Writes r a.trace a.report) same some) came,

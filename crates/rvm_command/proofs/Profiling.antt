@@ -169,9 +169,86 @@ module _ (counts : List ℕ) (ts : List Taken) (are : AreRuns counts ts) where
       ∙ sym (places_more f (f + k) (omega arith) ts)
       ∙ ap (λ e. count_by (ran_places f e) ts) (sym place)
 
-  -- a range of addresses has the words of a range of places
-  same_words : (pages from : ℕ) (end : Option ℕ) (a : ℕ) → length counts ≡ 1024 * pages
-      → let first = places_before from (length counts) in
-      at_places first (first + (places_until end (length counts) - first)) a ≡ (is_word pages a && (nat_le from a && is_before end a))
-  same_words pages from end a size = ?
+-- ---- the words of a symbol
 
+-- a word stands in a range of places if it stands in RAM from an address on, up to the end of a range
+words_between : (pages from : ℕ) (end : Option ℕ) (n a : ℕ) → n ≡ 1024 * pages
+    → at_places (places_before from n) (places_before from n + (places_until end n - places_before from n)) a
+    ≡ (is_word pages a && (nat_le from a && is_before end a))
+words_between pages from end n a size =
+    let first = places_before from n in
+    let last = first + (places_until end n - first) in
+    let few = until_few end in
+    same_test (at_places first last a) (is_word pages a && (nat_le from a && is_before end a))
+    (λ is. (let parts = at_parts first last a is in
+    word_from pages from end a parts.0 (omega (arith, parts.1)) (in_ram end parts.2) (omega (arith, parts.0, parts.1, parts.2, few))
+    (before_end end parts.0 parts.1 parts.2)))
+    (λ is. (let parts = word_parts pages from end a is in
+    at_from first last a parts.0 (omega (arith, parts.0, parts.1, parts.2, parts.3, size)) (last_of end parts.0 parts.1 parts.2 parts.3 parts.4)))
+  where
+    until_few : (e : Option ℕ) → places_until e n ≤ n
+    until_few None = omega arith
+    until_few (Some e) = omega arith
+
+    word_parts : (pages from : ℕ) (end : Option ℕ) (a : ℕ) → (is_word pages a && (nat_le from a && is_before end a)) ≡ true
+        → (a % 4 ≡ 0) × (ram_base ≤ a) × (a < ram_base + 4096 * pages) × (from ≤ a) × (is_before end a ≡ true)
+    word_parts pages from end a is =
+        let both = and_parts (is_word pages a) (nat_le from a && is_before end a) is in
+        let word = and_parts (a % 4 == 0) (nat_le ram_base a && nat_lt a (ram_base + 4096 * pages)) both.0 in
+        let inside = and_parts (nat_le ram_base a) (nat_lt a (ram_base + 4096 * pages)) word.1 in
+        let range = and_parts (nat_le from a) (is_before end a) both.1 in
+        (
+          eqb-true (a % 4) 0 word.0, leb-true ram_base a inside.0, ltb-true a (ram_base + 4096 * pages) inside.1,
+          leb-true from a range.0, range.1,
+        )
+
+    word_from : (pages from : ℕ) (end : Option ℕ) (a : ℕ) → a % 4 ≡ 0 → ram_base ≤ a → a < ram_base + 4096 * pages → from ≤ a
+        → is_before end a ≡ true → (is_word pages a && (nat_le from a && is_before end a)) ≡ true
+    word_from pages from end a whole low high here before =
+        and_from (is_word pages a) (nat_le from a && is_before end a)
+        (and_from (a % 4 == 0) (nat_le ram_base a && nat_lt a (ram_base + 4096 * pages)) (eq-eqb (a % 4) 0 whole)
+        (and_from (nat_le ram_base a) (nat_lt a (ram_base + 4096 * pages)) (le-leb ram_base a low)
+        (lt-ltb a (ram_base + 4096 * pages) high)))
+        (and_from (nat_le from a) (is_before end a) (le-leb from a here) before)
+
+    in_ram : (e : Option ℕ) → a < ram_base + 4 * (places_before from n + (places_until e n - places_before from n))
+        → a < ram_base + 4096 * pages
+    in_ram None below = omega (arith, below, size)
+    in_ram (Some e) below = omega (arith, below, size)
+
+    before_end : (e : Option ℕ) → a % 4 ≡ 0 → ram_base + 4 * places_before from n ≤ a
+        → a < ram_base + 4 * (places_before from n + (places_until e n - places_before from n)) → is_before e a ≡ true
+    before_end None whole low below = refl
+    before_end (Some e) whole low below = lt-ltb a e (omega (arith, whole, low, below))
+
+    last_of : (e : Option ℕ) → a % 4 ≡ 0 → ram_base ≤ a → a < ram_base + 4096 * pages → from ≤ a → is_before e a ≡ true
+        → a < ram_base + 4 * (places_before from n + (places_until e n - places_before from n))
+    last_of None whole low high here before = omega (arith, whole, low, high, here, size)
+    last_of (Some e) whole low high here before =
+        let less = ltb-true a e before in omega (arith, whole, low, high, here, less, size)
+
+-- the numbers of the words of a range add up to the steps that ran them
+pub between_is : (counts : List ℕ) (ts : List Taken) (pages from : ℕ) (end : Option ℕ) → AreRuns counts ts
+    → length counts ≡ 1024 * pages → sum_between counts from end ≡ steps_between pages ts from end
+unfolding sum_between steps_between
+between_is counts ts pages from end are size =
+    let n = length counts in
+    let first = places_before from n in
+    let k = places_until end n - first in
+    let inside : first + k ≤ n = within end in
+    sum_places counts ts are first k inside
+    ∙ count_same (ran_places first (first + k)) (ran_between pages from end)
+    (λ t. ap (λ b. b && has_run t.reply) (words_between pages from end n (pc_of t.hart t.before) size)) ts
+  where
+    within : (e : Option ℕ) → places_before from (length counts) + (places_until e (length counts) - places_before from (length counts)) ≤ length counts
+    within None = omega arith
+    within (Some e) = omega arith
+
+-- the lines of symbols by numbers of words are those by steps
+pub profiled : (counts : List ℕ) (ts : List Taken) (pages : ℕ) (ss : List Symbol) → AreRuns counts ts → length counts ≡ 1024 * pages
+    → symbol_lines (sum_between counts) ss ≡ symbol_lines (steps_between pages ts) ss
+unfolding symbol_lines
+profiled counts ts pages [] are size = refl
+profiled counts ts pages (s ∷ after) are size =
+    ap (λ n. symbol_line n s.name ++ symbol_lines (sum_between counts) after) (between_is counts ts pages s.address (end_before after) are size)
+    ∙ ap (λ l. symbol_line (steps_between pages ts s.address (end_before after)) s.name ++ l) (profiled counts ts pages after are size)

@@ -25,8 +25,7 @@ pub(crate) fn write_profile<O: Write>(
     let mut open = symbols.next();
     while let Some(symbol) = open {
         let next = symbols.next();
-        let count = counts.sum_between(symbol.address, end_before(&next));
-        write_symbol(count, symbol.name, output)?;
+        write_symbol(&symbol, end_before(&next), counts, output)?;
         open = next;
     }
     Ok(())
@@ -42,12 +41,19 @@ fn end_before(next: &Option<Symbol>) -> Option<u32>
     }
 }
 
-/// Writes the line of a symbol of this name, with a number.
-fn write_symbol<O: Write>(count: u64, name: &[u8], output: &mut O) -> Result<(), LinkFault>
-    ensures { OnOk result (Appends (O.contents output.old) (O.contents output.new) (symbol_line count name.now)) }
+/// Writes the line of a symbol whose words end here, with the sum of their numbers.
+fn write_symbol<O: Write>(
+    symbol: &Symbol,
+    end: Option<u32>,
+    counts: &Counts,
+    output: &mut O,
+) -> Result<(), LinkFault>
+    ensures { OnOk result (Appends (O.contents output.old) (O.contents output.new)
+        (symbol_line (sum_between counts.now symbol.now.address end) symbol.now.name)) }
 {
+    let count = counts.sum_between(symbol.address, end);
     write!(output, "{}  ", InTen(count))?;
-    output.write_all(name)?;
+    output.write_all(symbol.name)?;
     writeln!(output)?;
     Ok(())
 }
