@@ -1,5 +1,5 @@
 -- How a replay of a journal ends.
-use Rattle.std.specs.Prelude.{◌≡◌, ◌⊎◌, ℕ, List, ◌++◌, Option, Some, None, IsSomeAnd, Ok, Err, codes}
+use Rattle.std.specs.Prelude.{◌≡◌, ◌⊎◌, ⊥, ℕ, zero, suc, List, [], ◌++◌, Option, Some, None, IsSomeAnd, Ok, Err, codes}
 use Rattle.std.specs.Fmt.{decimal}
 use Rattle.std.specs.Io.KnownBytes.{Appends}
 use Rattle.rvm_board.specs.Guest.{Guest}
@@ -104,3 +104,41 @@ abbrev pub IsNoSession : (name : List ℕ) → (most : Option ℕ) → (journal 
 IsNoSession name most journal image session before after errors_before errors_after =
     (IsRefused name most journal image errors_before errors_after × (after ≡ before))
     ⊎ HasNotAnswered name most journal image session before after errors_before errors_after
+
+-- by its status, what the guest of a recording sent was written, or that failed, and that was reported
+abbrev pub HasShownStatus : (status : ℕ) → Recording → (before after errors_before errors_after : Option (List ℕ)) → Type 0
+HasShownStatus zero r before after errors_before errors_after = IsShown r before after errors_before errors_after
+HasShownStatus (suc zero) r before after errors_before errors_after =
+    IsTold (refused LinkFault) errors_before errors_after
+HasShownStatus (suc (suc n)) r before after errors_before errors_after = ⊥
+
+-- by its status, how a replay ended that shows what the guest sent
+abbrev pub HasReplayStatus : (status : ℕ) → (name : List ℕ) → (most : Option ℕ) → (journal image : List ℕ)
+    → (before after errors_before errors_after : Option (List ℕ)) → Type 0
+HasReplayStatus zero name most journal image before after errors_before errors_after =
+    IsShownAgain most journal image before after errors_before errors_after
+HasReplayStatus (suc zero) name most journal image before after errors_before errors_after =
+    IsNotShown name most journal image before after errors_before errors_after
+HasReplayStatus (suc (suc n)) name most journal image before after errors_before errors_after = ⊥
+
+-- by its status, a session was answered for the guest that is at a host, or not
+abbrev pub HasAnswerStatus : (status : ℕ) → (name : List ℕ) → Option Guest → (count : ℕ)
+    → (session before after errors_before errors_after : Option (List ℕ)) → Type 0
+HasAnswerStatus zero name guest n session before after errors_before errors_after =
+    IsAnswered guest session before after × (errors_after ≡ errors_before)
+HasAnswerStatus (suc zero) name guest n session before after errors_before errors_after =
+    IsUnanswered name guest n session before after errors_before errors_after
+HasAnswerStatus (suc (suc k)) name guest n session before after errors_before errors_after = ⊥
+
+-- by its status, how a replay ended that hands its guest to a session of the debugger
+abbrev pub HasSessionStatus : (status : ℕ) → (name : List ℕ) → (most : Option ℕ) → (journal image : List ℕ)
+    → (session before after errors_before errors_after : Option (List ℕ)) → Type 0
+HasSessionStatus zero name most journal image session before after errors_before errors_after =
+    HasAnswered most journal image session before after × (errors_after ≡ errors_before)
+HasSessionStatus (suc zero) name most journal image session before after errors_before errors_after =
+    IsNoSession name most journal image session before after errors_before errors_after
+HasSessionStatus (suc (suc n)) name most journal image session before after errors_before errors_after = ⊥
+
+-- a text was to be reported, and it is not known how much of it was: errors that held nothing would hold this text
+abbrev pub IsUntold : (Ends : (status : ℕ) → (errors_before errors_after : Option (List ℕ)) → Type 0) → Type 0
+IsUntold Ends = (status : ℕ) × (report : List ℕ) × Ends status (Some []) (Some report)

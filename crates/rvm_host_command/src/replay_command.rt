@@ -1,9 +1,9 @@
 //! `rvmove replay`: the host of a journal does again what the journal tells.
 
-ghost use Rattle.std.specs.Prelude.{◌≡◌, ◌⊎◌, IfOk};
+ghost use Rattle.std.specs.Prelude.{◌≡◌, ◌⊎◌, IfOk, OnErr};
 ghost use Rattle.rvm_command.specs.Refusals.{IsTold, refused};
 ghost use Rattle.rvm_refusal.specs.declared.refusal.Refusal.TheVariants as refusal;
-ghost use Rattle.rvm_host_command.specs.Replays.{IsNotShown, IsShown, IsShownAgain};
+ghost use Rattle.rvm_host_command.specs.Replays.{HasReplayStatus, HasShownStatus, IsNotShown, IsShown, IsShownAgain, IsUntold};
 
 use crate::console_of_journal::write_console;
 use crate::journal_hosts::host_of_journal;
@@ -37,6 +37,8 @@ pub fn replay_command<M: PagedMemory + Drop, O: Write, E: Write>(
         (O.contents output.old) (O.contents output.new) (E.contents errors.old) (E.contents errors.new)) }
     ensures refused { IfOk result (λ status. status ≡ 1 → IsNotShown name.now until journal.now image.now
         (O.contents output.old) (O.contents output.new) (E.contents errors.old) (E.contents errors.new)) }
+    ensures untold { OnErr result (IsUntold (λ status before after. HasReplayStatus status name.now until journal.now
+        image.now (O.contents output.old) (O.contents output.new) before after)) }
 {
     match host_of_journal::<M>(alloc, journal, image, until) {
         Ok(recorded) => {
@@ -62,6 +64,8 @@ fn show<M: PagedMemory + Drop, O: Write, E: Write>(
         (O.contents output.old) (O.contents output.new) (E.contents errors.old) (E.contents errors.new)) }
     ensures failed { IfOk result (λ status. status ≡ 1
         → IsTold (refused refusal.LinkFault) (E.contents errors.old) (E.contents errors.new)) }
+    ensures untold { OnErr result (IsUntold (λ status before after. HasShownStatus status recorded.now
+        (O.contents output.old) (O.contents output.new) before after)) }
 {
     match write_console(output, recorded.journal().items()) {
         Ok(()) => {

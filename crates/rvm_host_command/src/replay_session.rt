@@ -1,10 +1,10 @@
 //! `rvmove replay` with a script: a session of the debugger with the guest that is at the host of a journal after what it did.
 
-ghost use Rattle.std.specs.Prelude.{◌≡◌, ◌⊎◌, IfOk, Some};
+ghost use Rattle.std.specs.Prelude.{◌≡◌, ◌⊎◌, IfOk, OnErr, Some};
 ghost use Rattle.std.specs.Io.Buffered.{writer_contents};
 ghost use Rattle.rvm_command.specs.Flushed.{is_flushed};
 ghost use Rattle.rvm_recorder.specs.History.{count_of};
-ghost use Rattle.rvm_host_command.specs.Replays.{HasAnswered, IsAnswered, IsNoSession, IsSessionRefused, IsUnanswered, guest_after};
+ghost use Rattle.rvm_host_command.specs.Replays.{HasAnswerStatus, HasAnswered, HasSessionStatus, IsAnswered, IsNoSession, IsSessionRefused, IsUnanswered, IsUntold, guest_after};
 
 use crate::journal_hosts::host_of_journal;
 use crate::journal_report::report_fault;
@@ -43,6 +43,9 @@ pub fn replay_session<M: PagedMemory + Drop, R: Read, O: Write + Drop, E: Write>
     ensures refused { IfOk result (λ status. status ≡ 1 → IsNoSession name.now until journal.now image.now
         (R.remaining reader.old) (writer_contents O.contents output.old) (writer_contents O.contents output.new)
         (E.contents errors.old) (E.contents errors.new)) }
+    ensures untold { OnErr result (IsUntold (λ status before after. HasSessionStatus status name.now until journal.now
+        image.now (R.remaining reader.old) (writer_contents O.contents output.old)
+        (writer_contents O.contents output.new) before after)) }
 {
     match host_of_journal::<M>(alloc, journal, image, until) {
         Ok(recorded) => session_at(alloc, name, recorded, reader, output, errors),
@@ -70,6 +73,9 @@ fn session_at<M: PagedMemory + Drop, R: Read, O: Write + Drop, E: Write>(
     ensures refused { IfOk result (λ status. status ≡ 1 → IsUnanswered name.now (guest_after recorded) (count_of recorded)
         (R.remaining reader.old) (writer_contents O.contents output.old) (writer_contents O.contents output.new)
         (E.contents errors.old) (E.contents errors.new)) }
+    ensures untold { OnErr result (IsUntold (λ status before after. HasAnswerStatus status name.now (guest_after recorded)
+        (count_of recorded) (R.remaining reader.old) (writer_contents O.contents output.old)
+        (writer_contents O.contents output.new) before after)) }
 {
     let count = recorded.count();
     match recorded.into_guest() {
@@ -97,6 +103,9 @@ fn session_of<M: PagedMemory + Drop, R: Read, O: Write + Drop, E: Write>(
     ensures refused { IfOk result (λ status. status ≡ 1 → IsSessionRefused guest.guest (R.remaining reader.old)
         (writer_contents O.contents output.old) (writer_contents O.contents output.new)
         (E.contents errors.old) (E.contents errors.new)) }
+    ensures untold { OnErr result (IsUntold (λ status before after. (status ≡ 1) × IsSessionRefused guest.guest
+        (R.remaining reader.old) (writer_contents O.contents output.old) (writer_contents O.contents output.new)
+        before after)) }
 {
     let mut guest = guest;
     let answered = answer(alloc, &mut guest, true, reader, output);

@@ -16,12 +16,10 @@ use Rattle.rvm_command.specs.declared.refused.Refused.{Refused}
 use Rattle.rvm_command.specs.declared.run.Ended.{Ended}
 use Rattle.rvm_command.specs.Command.{end_text, image_of, refused_text}
 use Rattle.rvm_command.specs.Ends.{HasStatus, IsAsmEnd, IsDebugEnd, IsListEnd, IsRunEnd, RunHasStatus, run_status}
-use Rattle.rvm_arguments.specs.declared.arguments.ReplayArguments.{ReplayArguments}
-use Rattle.rvm_host_command.specs.Consoles.{IsShownAgain}
 use Rattle.rvm_host_command.specs.Hosted.{IsHostedTo}
 use Rattle.rvm_move.specs.Ended.{IsMoved, IsNotMoved, IsUntold}
 use Rattle.rvm_move.specs.Orders.{IsAudited, IsNotAudited}
-use Rattle.rvm_program.specs.Ended.{AsmEnded, AuditEnded, DebugEnded, DisEnded, HasHosted, HasRunTo, HostEnded, IsFileOrNone, IsNamedFile, MoveEnded, ReplayEnded, RunEnded, ScriptEnded, TellEnded, ToTell, Written, report_name, trace_name}
+use Rattle.rvm_program.specs.Ended.{AsmEnded, AuditEnded, DebugEnded, DisEnded, HasHosted, HasRunTo, HostEnded, IsNamedFile, MoveEnded, RunEnded, ScriptEnded, TellEnded, ToTell, Written, report_name, trace_name}
 use Rattle.rvm_command.proofs.Inputs.{ends_so}
 use Rattle.rvm_program.specs.Files.{IsApart, IsCreated, IsFile, IsFirst, IsFirstInput, IsImage, IsInput, IsOpened, Named, symbols_name}
 use Rattle.rvm_command.specs.ScriptEnds.{IsScriptEnd}
@@ -411,27 +409,3 @@ host_untold files a output (Err fault) = (1, [], tt)
 pub tell_untold : {F : Type 0} (r : Result ℕ F) → OnErr r (ToTell (λ status errors. TellEnded status))
 tell_untold (Ok status) = tt
 tell_untold (Err fault) = (1, [], inr (inl refl))
-
--- `replay` did all of it, or something was refused or failed
-pub replay_ended : {F : Type 0} (files : Named) (a : ReplayArguments) (journal image : List ℕ) (output : Written)
-    (r : Result ℕ F) → IsFile (files a.journal.now) journal → IsFileOrNone files a.image image
-    → IfOk r (λ status. (status ≡ 0) ⊎ (status ≡ 1))
-    → IfOk r (λ status. status ≡ 0 → IsShownAgain journal image output.before output.after)
-    → IfOk r (λ status. ReplayEnded files a status output)
-replay_ended files a journal image output (Err fault) journal_is image_is status shown = tt
-replay_ended files a journal image output (Ok s) journal_is image_is status shown = elim status [
-  | inl none ↦ subst (λ n. ReplayEnded files a n output) (sym none) (record {
-    journal = journal;
-    image = image;
-    journal_is = journal_is;
-    image_is = image_is;
-    shown = shown none;
-  })
-  | inr one ↦ subst (λ n. ReplayEnded files a n output) (sym one) tt
-]
-
--- where it is not told how a replay ended, not all of it was done
-pub replay_untold : {F : Type 0} (files : Named) (a : ReplayArguments) (output : Written) (r : Result ℕ F)
-    → OnErr r (ToTell (λ status errors. ReplayEnded files a status output))
-replay_untold files a output (Ok status) = tt
-replay_untold files a output (Err fault) = (1, [], tt)

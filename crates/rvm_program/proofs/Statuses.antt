@@ -1,14 +1,16 @@
 -- The statuses of commands.
 use Rattle.std.proofs.Common.{◌≡◌, ◌⊎◌, ◌<◌, Bool, true, false, ℕ, zero, suc, List, ◌++◌, codes, Option, Result, Ok, Err, refl, inl, inr, subst, sym, ◌∙◌, arith}
+use Rattle.std.specs.Borrow.{Bor}
 use Rattle.std.specs.Result.{IfErr, IfOk}
 use Rattle.std.specs.Prelude.{OnErr}
 use Rattle.rvm_arguments.specs.declared.arguments.Arguments.{Arguments}
 use Rattle.rvm_arguments.specs.declared.arguments.Arguments.TheVariants.{Run, Asm, Dis, Debug, Script, Move, Audit, Host, Tell, Replay, AuditJournals}
-use Rattle.rvm_program.specs.Ended.{HasEnded, HasRunTo, HostEnded, IsUnbegun, IsUntold, JournalsEnded, MoveHasStatus, TellEnded, Written}
+use Rattle.rvm_program.specs.Ended.{HasEnded, HasRunTo, HostEnded, IsReplayEnd, IsUnbegun, IsUntold, JournalsEnded, MoveHasStatus, ReplayEnded, TellEnded, Written}
 use Rattle.rvm_program.specs.Performed.{HasFailed, IsJudged, IsPassingOn, MayBeOpen, TellsMore}
 use Rattle.rvm_arguments.specs.declared.arguments.AuditJournalsArguments.{AuditJournalsArguments}
 use Rattle.rvm_arguments.specs.declared.arguments.HostArguments.{HostArguments}
 use Rattle.rvm_arguments.specs.declared.arguments.MoveArguments.{MoveArguments}
+use Rattle.rvm_arguments.specs.declared.arguments.ReplayArguments.{ReplayArguments}
 use Rattle.rvm_arguments.specs.declared.arguments.RunArguments.{RunArguments}
 use Rattle.rvm_arguments.specs.declared.arguments.StatusOf.{StatusOf}
 use Rattle.rvm_arguments.specs.declared.arguments.StatusOf.TheVariants.{Command, Verdict, Guest}
@@ -111,6 +113,19 @@ told a s (inr (inr three)) = record {
   judged = λ above. absurd (omega (arith, three, above));
 }
 
+-- a replay has one of two statuses
+no_end : (files : Named) (a : ReplayArguments) (name : Option (Bor (List ℕ))) (n : ℕ) (journal image : List ℕ)
+    (input : Option (List ℕ)) (output errors : Written)
+    → IsReplayEnd files a name (suc (suc n)) journal image input output errors → ⊥
+no_end files a None n journal image input output errors none = none
+no_end files a (Some name) n journal image input output errors e = e.ended
+
+replayed : (files : Named) (a : ReplayArguments) (n : ℕ) (input : Option (List ℕ))
+    (output errors : Written) → ReplayEnded files a (suc (suc n)) input output errors → ⊥
+replayed files a n input output errors (inl e) =
+    no_end files a a.script n e.journal e.image input output errors e.ended
+replayed files a n input output errors (inr no) = let it : suc (suc n) ≡ 1 = no.0 in omega (arith, it)
+
 -- an audit of journals has one of three statuses
 audited : (files : Named) (a : AuditJournalsArguments) (n : ℕ) (output : Option (List ℕ)) (errors : Written)
     → JournalsEnded files a (suc (suc n)) output errors → IsAskedFor (AuditJournals a) (suc (suc n))
@@ -137,7 +152,7 @@ more files created (Move a) n script output errors e = move_ended a (suc (suc n)
 more files created (Audit a) n script output errors e = absurd e.ended
 more files created (Host a) n script output errors e = hosted files a n output e
 more files created (Tell a) n script output errors e = told a (suc (suc n)) e
-more files created (Replay a) n script output errors e = absurd e
+more files created (Replay a) n script output errors e = absurd (replayed files a n script output errors e)
 more files created (AuditJournals a) n script output errors e = audited files a n output.before errors e
 
 -- a command that has ended was asked for its status

@@ -1,7 +1,8 @@
 -- How a command ended, given the files that it names.
 use Rattle.std.specs.Borrow.{Bor}
 use Rattle.std.specs.Io.KnownBytes.{Appends}
-use Rattle.std.specs.Prelude.{◌≡◌, ◌⊎◌, ⊤, ℕ, zero, suc, Bool, true, false, List, [], ◌∷◌, ◌++◌, Option, None, Some, Result, option_map}
+use Rattle.std.specs.Str.{bytes_eq}
+use Rattle.std.specs.Prelude.{◌≡◌, ◌⊎◌, ⊤, if◌then◌else◌, codes, ℕ, zero, suc, Bool, true, false, List, [], ◌∷◌, ◌++◌, Option, None, Some, Result, option_map}
 use Rattle.rvm_arguments.specs.declared.arguments.Arguments.{Arguments}
 use Rattle.rvm_arguments.specs.declared.arguments.Arguments.TheVariants.{Run, Asm, Dis, Debug, Script, Move, Audit, Host, Tell, Replay, AuditJournals}
 use Rattle.rvm_arguments.specs.declared.arguments.AsmArguments.{AsmArguments}
@@ -20,7 +21,7 @@ use Rattle.rvm_command.specs.declared.refused.Refused.{Refused}
 use Rattle.rvm_command.specs.declared.run.Ended.{Ended}
 use Rattle.rvm_command.specs.Ends.{HasStatus, IsAsmEnd, IsDebugEnd, IsListEnd, IsRunEnd, RunHasStatus}
 use Rattle.rvm_command.specs.Refusals.{IsTold, refused}
-use Rattle.rvm_host_command.specs.Consoles.{IsShownAgain}
+use Rattle.rvm_host_command.specs.Replays.{HasReplayStatus, HasSessionStatus}
 use Rattle.rvm_host_command.specs.Hosted.{IsHostedTo}
 use Rattle.rvm_host_command.specs.Findings.{HasAuditStatus}
 use Rattle.rvm_host_command.specs.declared.journal_audit.AuditText.{AuditText}
@@ -180,20 +181,54 @@ abbrev pub IsFileOrNone : (files : Named) → (name : Option (Bor (List ℕ))) �
 IsFileOrNone files None bytes = bytes ≡ []
 IsFileOrNone files (Some name) bytes = IsFile (files name.now) bytes
 
--- `replay` was given the files that it names, and the host did again what the journal tells; the output has what the
--- guest sent while it was there
-pub record HasReplayed (files : Named) (a : ReplayArguments) (output : Written) : Type 0 where
+-- the session with this name: all that standard input gives, or all bytes of a file
+abbrev pub IsSession : (files : Named) → (name : List ℕ) → (input session : Option (List ℕ)) → Type 0
+IsSession files name input session =
+    if bytes_eq name (codes "-") then session ≡ input else IsOpened (files name) session
+
+-- a session was answered for the guest of a journal, or not, and wrote to a buffer in front of the output
+pub record IsSessionEnd (files : Named) (a : ReplayArguments) (name : List ℕ) (status : ℕ) (journal image : List ℕ)
+    (input output : Option (List ℕ)) (errors : Written) : Type 0 where
+  pub session : Option (List ℕ)
+  pub told : Option (List ℕ)
+  pub session_is : IsSession files name input session
+  pub ended : HasSessionStatus status a.journal.now a.until journal image session output told errors.before errors.after
+
+-- a session was answered for the guest of a journal, or did not begin
+abbrev pub IsAnswerEnd : (status : ℕ) → (files : Named) → ReplayArguments → (journal image : List ℕ)
+    → (session output : Option (List ℕ)) → (errors : Written) → Type 0
+IsAnswerEnd status files a journal image session output errors =
+    ((told : Option (List ℕ)) × HasSessionStatus status a.journal.now a.until journal image session output told
+    errors.before errors.after) ⊎ ((status ≡ 1) × IsNotBegun files errors)
+
+-- what the guest of a journal sent was shown, or a session was answered for it, if one is named
+abbrev pub IsReplayEnd : (files : Named) → ReplayArguments → Option (Bor (List ℕ)) → (status : ℕ) → (journal image : List ℕ)
+    → (input : Option (List ℕ)) → (output errors : Written) → Type 0
+IsReplayEnd files a None status journal image input output errors =
+    HasReplayStatus status a.journal.now a.until journal image output.before output.after errors.before errors.after
+IsReplayEnd files a (Some name) status journal image input output errors =
+    IsSessionEnd files a name.now status journal image input output.before errors
+
+-- a replay of what was read of its files ended, or did not begin
+abbrev pub IsReplayed : (files : Named) → ReplayArguments → (status : ℕ) → (journal image : List ℕ)
+    → (input : Option (List ℕ)) → (output errors : Written) → Type 0
+IsReplayed files a status journal image input output errors =
+    IsReplayEnd files a a.script status journal image input output errors ⊎ ((status ≡ 1) × IsNotBegun files errors)
+
+-- `replay` was given the files that it names
+pub record HasReplayed (files : Named) (a : ReplayArguments) (status : ℕ) (input : Option (List ℕ)) (output errors : Written)
+    : Type 0 where
   pub journal : List ℕ
   pub image : List ℕ
   pub journal_is : IsFile (files a.journal.now) journal
   pub image_is : IsFileOrNone files a.image image
-  pub shown : IsShownAgain journal image output.before output.after
+  pub ended : IsReplayEnd files a a.script status journal image input output errors
 
--- by the status: `replay` did all of it, or something was refused or failed
-abbrev pub ReplayEnded : (files : Named) → ReplayArguments → (status : ℕ) → (output : Written) → Type 0
-ReplayEnded files a zero output = HasReplayed files a output
-ReplayEnded files a (suc zero) output = ⊤
-ReplayEnded files a (suc (suc n)) output = ⊥
+-- `replay` was given its files, or did not begin
+abbrev pub ReplayEnded : (files : Named) → ReplayArguments → (status : ℕ) → (input : Option (List ℕ))
+    → (output errors : Written) → Type 0
+ReplayEnded files a status input output errors =
+    HasReplayed files a status input output errors ⊎ ((status ≡ 1) × IsNotBegun files errors)
 
 -- these are the journals in the files with these names, in order
 abbrev pub AreJournals : (files : Named) → (names : List (Bor (List ℕ))) → List JournalFile → Type 0
@@ -251,7 +286,7 @@ HasEnded files created (Move a) status script output errors = MoveEnded files a 
 HasEnded files created (Audit a) status script output errors = AuditEnded files a status output.before errors
 HasEnded files created (Host a) status script output errors = HostEnded files a status output
 HasEnded files created (Tell a) status script output errors = TellEnded status
-HasEnded files created (Replay a) status script output errors = ReplayEnded files a status output
+HasEnded files created (Replay a) status script output errors = ReplayEnded files a status script output errors
 HasEnded files created (AuditJournals a) status script output errors = JournalsEnded files a status output.before errors
 
 -- a command did not begin, since a file could not be opened or read, memory ran out, or a file has more bytes than it

@@ -48,7 +48,7 @@ use std::{io, thread};
 pub(crate) type Told = Result<u8, LinkFault>;
 
 /// The name of a file that stands for standard input.
-const STANDARD_INPUT: &str = "-";
+pub(crate) const STANDARD_INPUT: &str = "-";
 
 /// Reads the image and the bytes for the console, and runs the guest.
 pub(crate) fn run<M: PagedMemory + Drop, F: NamedFiles, O: Write, E: Write>(

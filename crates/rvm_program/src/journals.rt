@@ -2,47 +2,133 @@
 //! image first, and calls the command over values. If a file is refused, each writes its name and the refusal.
 
 ghost use Rattle.std.specs.Prelude.{◌≡◌, [], ◌∷◌, ◌++◌, IfErr, IfOk, OnErr, OnOk};
-ghost use Rattle.rvm_program.specs.Ended.{AreJournals, IsAuditEnd, IsFileOrNone, IsOneMore, JournalsEnded, ReplayEnded, ToTell, text_of, written};
+ghost use Rattle.rvm_host_command.specs.Replays.{HasReplayStatus};
+ghost use Rattle.rvm_program.specs.Ended.{AreJournals, IsAnswerEnd, IsAuditEnd, IsFileOrNone, IsOneMore, IsReplayed, JournalsEnded, ReplayEnded, ToTell, text_of, written};
 ghost use Rattle.rvm_program.specs.Files.{IsFile, IsRefusedFile, Named};
 
-use crate::commands::{Told, buffered, read_told, tell_file};
+use crate::commands::{STANDARD_INPUT, Told, buffered, read_told, tell_file};
 use crate::files::{MAX_JOURNAL_SIZE, NamedFiles, read_file};
 use rvm_arguments::{AuditJournalsArguments, ReplayArguments};
 use rvm_command::refused::{Refused, tell};
 use rvm_host_command::journal_audit::{AuditText, audit_journals as audit_files};
 use rvm_host_command::journal_file::JournalFile;
 use rvm_host_command::replay_command::replay_command;
+use rvm_host_command::replay_session::replay_session;
 use rvm_mem::PagedMemory;
 use rvm_refusal::Refusal;
 use std::alloc::{AllocError, Global};
-use std::io::Write;
+use std::io::{Read, Write};
 
 /// Reads a journal, and the image with which its host began, and has the host do again what the journal tells. If a file
 /// is refused, writes its name and the refusal to `errors`, and returns the status 1.
-#[tactic(auto, using(crate::proofs::Ended::replay_ended))]
-pub(crate) fn replay<M: PagedMemory + Drop, F: NamedFiles, O: Write, E: Write>(
+pub(crate) fn replay<M: PagedMemory + Drop, F: NamedFiles, I: Read, O: Write, E: Write>(
     alloc: Global,
     files: &F,
     arguments: &ReplayArguments,
+    input: &mut I,
     output: &mut O,
     errors: &mut E,
 ) -> Told
-    ensures { IfOk result (λ status. ReplayEnded (F.bytes_of files.now) arguments.now status
-        (written (O.contents output.old) (O.contents output.new))) }
+    ensures ended { IfOk result (λ status. ReplayEnded (F.bytes_of files.now) arguments.now status
+        (I.remaining input.old) (written (O.contents output.old) (O.contents output.new))
+        (written (E.contents errors.old) (E.contents errors.new))) }
+    ensures untold { OnErr result (ToTell (λ status errors. ReplayEnded (F.bytes_of files.now) arguments.now status
+        (I.remaining input.old) (written (O.contents output.old) (O.contents output.new)) errors)) }
 {
     match read_replayed(alloc, files, arguments) {
-        Ok(read) => replay_command::<M, O, E>(
+        Ok(read) => replay_read::<M, F, I, O, E>(
+            alloc, files, arguments, &read, input, output, errors,
+        ),
+        Err((path, why)) => tell_file(path, why, errors),
+    }
+}
+
+/// Has the host of a journal do again what the journal tells, and writes what its guest sent; or answers the session that
+/// is named, for the guest that is then at the host.
+fn replay_read<M: PagedMemory + Drop, F: NamedFiles, I: Read, O: Write, E: Write>(
+    alloc: Global,
+    files: &F,
+    arguments: &ReplayArguments,
+    read: &ReplayFiles,
+    input: &mut I,
+    output: &mut O,
+    errors: &mut E,
+) -> Told
+    ensures ended { IfOk result (λ status. IsReplayed (F.bytes_of files.now) arguments.now status
+        read.now.journal.items read.now.image.items (I.remaining input.old)
+        (written (O.contents output.old) (O.contents output.new))
+        (written (E.contents errors.old) (E.contents errors.new))) }
+    ensures untold { OnErr result (ToTell (λ status errors. IsReplayed (F.bytes_of files.now) arguments.now status
+        read.now.journal.items read.now.image.items (I.remaining input.old)
+        (written (O.contents output.old) (O.contents output.new)) errors)) }
+{
+    let Some(script) = arguments.script else {
+        return show_replay::<M, O, E>(alloc, arguments, read, output, errors);
+    };
+    if script == STANDARD_INPUT {
+        return answer_replay::<M, I, O, E>(alloc, arguments, read, input, output, errors);
+    }
+    match files.open(script) {
+        Ok(mut script) => {
+            answer_replay::<M, F::Opened, O, E>(alloc, arguments, read, &mut script, output, errors)
+        }
+        Err(why) => tell_file(script, why, errors),
+    }
+}
+
+/// Has the host of a journal do again what the journal tells, and writes what its guest sent.
+fn show_replay<M: PagedMemory + Drop, O: Write, E: Write>(
+    alloc: Global,
+    arguments: &ReplayArguments,
+    read: &ReplayFiles,
+    output: &mut O,
+    errors: &mut E,
+) -> Told
+    ensures ended { IfOk result (λ status. HasReplayStatus status arguments.now.journal.now arguments.now.until
+        read.now.journal.items read.now.image.items (O.contents output.old) (O.contents output.new)
+        (E.contents errors.old) (E.contents errors.new)) }
+    ensures untold { OnErr result (ToTell (λ status errors. HasReplayStatus status arguments.now.journal.now
+        arguments.now.until read.now.journal.items read.now.image.items (O.contents output.old) (O.contents output.new)
+        errors.before errors.after)) }
+{
+    replay_command::<M, O, E>(
+        alloc,
+        arguments.journal,
+        &read.journal,
+        &read.image,
+        arguments.until,
+        output,
+        errors,
+    )
+}
+
+/// Answers a session for the guest that is at the host of a journal, to a buffer in front of `output`.
+fn answer_replay<M: PagedMemory + Drop, R: Read, O: Write, E: Write>(
+    alloc: Global,
+    arguments: &ReplayArguments,
+    read: &ReplayFiles,
+    session: &mut R,
+    output: &mut O,
+    errors: &mut E,
+) -> Told
+    ensures ended { (files : Named) → IfOk result (λ status. IsAnswerEnd status files arguments.now
+        read.now.journal.items read.now.image.items (R.remaining session.old) (O.contents output.old)
+        (written (E.contents errors.old) (E.contents errors.new))) }
+    ensures untold { (files : Named) → OnErr result (ToTell (λ status errors. IsAnswerEnd status files arguments.now
+        read.now.journal.items read.now.image.items (R.remaining session.old) (O.contents output.old) errors)) }
+{
+    match buffered(alloc, output) {
+        Ok(mut output) => replay_session::<M, R, _, E>(
             alloc,
             arguments.journal,
             &read.journal,
             &read.image,
-            output,
+            arguments.until,
+            session,
+            &mut output,
             errors,
         ),
-        Err((path, why)) => {
-            writeln!(errors, "{path}: {why}")?;
-            Ok(1)
-        }
+        Err(why) => tell(Refused::from(why), errors),
     }
 }
 
@@ -61,6 +147,7 @@ fn read_replayed<'a, F: NamedFiles>(
 ) -> Result<ReplayFiles, (&'a str, Refusal)>
     ensures journal { IfOk result (λ r. IsFile (F.bytes_of files.now arguments.now.journal.now) r.journal.items) }
     ensures image { IfOk result (λ r. IsFileOrNone (F.bytes_of files.now) arguments.now.image r.image.items) }
+    ensures refused { IfErr result (λ e. IsRefusedFile (F.bytes_of files.now e.0.now) e.1) }
 {
     let image = read_named(alloc, files, arguments.image)?;
     Ok(ReplayFiles {
@@ -75,7 +162,8 @@ fn read_named<'a, F: NamedFiles>(
     files: &F,
     name: Option<&'a str>,
 ) -> Result<Vec<u8>, (&'a str, Refusal)>
-    ensures { IfOk result (λ bytes. IsFileOrNone (F.bytes_of files.now) name.entry bytes.items) }
+    ensures bytes { IfOk result (λ bytes. IsFileOrNone (F.bytes_of files.now) name.entry bytes.items) }
+    ensures refused { IfErr result (λ e. IsRefusedFile (F.bytes_of files.now e.0.now) e.1) }
 {
     match name {
         Some(name) => read_told(files, alloc, name),

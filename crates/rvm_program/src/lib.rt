@@ -419,10 +419,11 @@ where
             rt, files, arguments, output, errors,
         )),
         Arguments::Tell(arguments) => Ok(commands::tell(rt, arguments, input, output, errors)),
-        Arguments::Replay(arguments) => Ok(journals::replay::<M, F, O, E>(
+        Arguments::Replay(arguments) => Ok(journals::replay::<M, F, I, O, E>(
             rt.alloc(),
             files,
             arguments,
+            input,
             output,
             errors,
         )),

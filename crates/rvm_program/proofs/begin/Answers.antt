@@ -1,7 +1,7 @@
 use Rattle.std.proofs.Common.{subst, sym}
 use Rattle.std.specs.Prelude.{IfOk, OnErr}
 use Rattle.rvm_program.specs.Ended.{HasEnded, ToTell, written}
-use Rattle.rvm_program.proofs.Ended.{host_untold, replay_untold, tell_untold}
+use Rattle.rvm_program.proofs.Ended.{host_untold, tell_untold}
 use Rattle.rvm_program.proofs.begin.Goals as goal
 
 pub returns-in-Run-clause-untold : goal.returns-in-Run-clause-untold
@@ -58,7 +58,7 @@ returns-in-Replay-clause-untold g c =
     let output = written (g.O.Write.contents c.args.output.now) (g.O.Write.contents c.replay.new.output) in
     subst (λ a. OnErr c.replay.result (ToTell (λ status errors.
     HasEnded (g.F.NamedFiles.bytes_of c.args.files.now) (g.F.NamedFiles.created_of c.args.files.now) a status
-    (g.I.Read.remaining c.args.input.now) output errors))) (sym c.in-Replay.is) (replay_untold _ _ output c.replay.result)
+    (g.I.Read.remaining c.args.input.now) output errors))) (sym c.in-Replay.is) c.replay.ensures.untold
 
 pub returns-in-AuditJournals-clause-untold : goal.returns-in-AuditJournals-clause-untold
 returns-in-AuditJournals-clause-untold g c =
