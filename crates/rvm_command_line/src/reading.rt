@@ -292,8 +292,8 @@ fn range(from: &str, length: &str, pages: u32) -> Option<WordRange>
     }
 }
 
-/// What is traced of a run. Fails with a text if an option of a trace has no number within its limits, if one is given
-/// and no file is named for the trace, or if that file is one that the run reads.
+/// What is traced of a run. Fails with a text if an option of a trace has no number within its limits, if the first turn
+/// is above the last one, if a turn is given and no file is named for the trace, or if that file is one that the run reads.
 fn read_trace<'a>(run: &ArgMatches<'a>) -> Result<Option<TraceArguments<'a>>, &'static str>
     ensures { IfOk result (IsTrace (rows_of (found_of run.now))) }
 {
@@ -309,6 +309,9 @@ fn read_trace<'a>(run: &ArgMatches<'a>) -> Result<Option<TraceArguments<'a>>, &'
     let Some(to) = number_or(run, "trace-to", LAST_TURN, 0, LAST_TURN) else {
         return Err("--trace-to takes a decimal number from 0 to 999999999");
     };
+    if from > to {
+        return Err("--trace-from is above --trace-to");
+    }
     Ok(Some(TraceArguments { file, from, to }))
 }
 

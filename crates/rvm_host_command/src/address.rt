@@ -4,6 +4,7 @@ use crate::fault::{HostFault, Place};
 use crate::operators::Operators;
 use std::io::ErrorKind;
 use std::net::{Net, OpenListener, SocketAddr, TcpListener, ToSocketAddrs};
+use std::os::unix::fs::FileTypeExt;
 use std::os::unix::net::{UnixListener, UnixStream};
 use std::rt::Files;
 use std::{fs, io, str};
@@ -86,11 +87,23 @@ fn bind_unix<R: Files + Net>(rt: &R, path: &str) -> io::Result<UnixListener> {
     Ok(listener)
 }
 
-/// Whether nobody listens at a Unix socket: it refuses a connection.
-fn is_left_over<R: Net>(rt: &R, path: &str) -> bool {
+/// Whether a path is a Unix socket at which nobody listens: it refuses a connection. So does a file that is no socket,
+/// which may not be removed.
+fn is_left_over<R: Files + Net>(rt: &R, path: &str) -> bool {
+    if !is_socket(rt, path) {
+        return false;
+    }
     match UnixStream::connect(rt, path) {
         Ok(_) => false,
         Err(error) => error.kind() == ErrorKind::ConnectionRefused,
+    }
+}
+
+/// Whether a path is a socket itself, and not a link to one.
+fn is_socket<R: Files>(rt: &R, path: &str) -> bool {
+    match fs::symlink_metadata(rt, path) {
+        Ok(metadata) => metadata.file_type().is_socket(),
+        Err(_) => false,
     }
 }
 

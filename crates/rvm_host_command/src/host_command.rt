@@ -154,7 +154,6 @@ where
         rate: arguments.rate,
         until_halt: arguments.until_halt,
     };
-    tell_addresses(&hosts, &operators, arguments.control, errors);
     let start = HostStart {
         guest,
         secret,
@@ -162,9 +161,12 @@ where
     };
     let log = begin_journal::<R::Listener, R>(rt, alloc, arguments, files.image, &plan, numbers);
     let ended = match log {
-        Ok(log) => work_at::<M, Option<JournalWriter<R::File>>, O, E, R>(
-            rt, alloc, &plan, start, log, output, errors,
-        ),
+        Ok(log) => {
+            tell_addresses(&hosts, &operators, arguments.control, errors);
+            work_at::<M, Option<JournalWriter<R::File>>, O, E, R>(
+                rt, alloc, &plan, start, log, output, errors,
+            )
+        }
         Err(fault) => Err(fault),
     };
     if is_path(arguments.control) {

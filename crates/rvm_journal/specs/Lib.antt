@@ -3,3 +3,4 @@ pub mod Told
 pub mod Written
 pub mod Headers
 pub mod Replaying
+pub mod Whole

@@ -5,7 +5,7 @@
 //! `rvm_recorder` for the host that does again what a journal tells, and on `sha2` and `hex`. It must not know files,
 //! processes or threads.
 //!
-//! To be read in this order: `run`, `noted`, `digest`, `texts`, `header`, `file`, `writer`, `replay`.
+//! To be read in this order: `run`, `noted`, `digest`, `texts`, `header`, `file`, `writer`, `whole`, `replay`.
 #![tactic(auto)]
 
 mod digest;
@@ -15,6 +15,7 @@ mod noted;
 mod replay;
 mod run;
 mod texts;
+mod whole;
 mod writer;
 
 pub use digest::LineDigest;
@@ -22,4 +23,5 @@ pub use header::{Header, Image};
 pub use noted::Noted;
 pub use replay::{JournalFault, is_whole, read_header, replay_journal};
 pub use run::Run;
+pub use whole::whole_size;
 pub use writer::JournalWriter;

@@ -9,17 +9,17 @@ use Rattle.rvm_arguments.specs.declared.arguments.AuditJournalsArguments.{AuditJ
 use Rattle.rvm_host_command.specs.Findings.{HasAuditStatus}
 use Rattle.rvm_host_command.specs.declared.journal_audit.AuditText.{AuditText}
 use Rattle.rvm_host_command.specs.declared.journal_file.JournalFile.{JournalFile}
-use Rattle.rvm_program.specs.Ended.{AreAuditedTo, AreJournals, IsNotBegun, IsOneMore, JournalsEnded, ToTell, Written, text_of, written}
+use Rattle.rvm_program.specs.Ended.{AreAuditedTo, AreJournals, IsJournal, IsNotBegun, IsOneMore, JournalsEnded, ToTell, Written, text_of, written}
 use Rattle.rvm_program.specs.Files.{IsFile, IsFileRefusal, IsLong, Named, file_text}
 use Rattle.rvm_refusal.specs.declared.refusal.Refusal.{Refusal}
 use Rattle.rvm_refusal.specs.declared.refusal.Refusal.TheVariants.{TooLong}
 
 after_one : (files : Named) (names : List (Bor (List ℕ))) (i : ℕ) (js : List JournalFile) (n : Bor (List ℕ)) (j : JournalFile)
-    → AreJournals files (take i names) js → slice_get names i ≡ Some n → IsFile (files n.now) j.bytes.items
+    → AreJournals files (take i names) js → slice_get names i ≡ Some n → IsJournal (files n.now) j.bytes.items
     → AreJournals files (take (suc i) names) (js ++ j ∷ [])
 after_one files [] i js n j are at is = absurd (none-some n at)
 after_one files (m ∷ ms) zero [] n j are at is =
-    (subst (λ k. IsFile (files k.now) j.bytes.items) (sym (same_Some m n at)) is, tt)
+    (subst (λ k. IsJournal (files k.now) j.bytes.items) (sym (same_Some m n at)) is, tt)
 after_one files (m ∷ ms) zero (x ∷ xs) n j are at is = absurd are
 after_one files (m ∷ ms) (suc i) [] n j are at is = absurd are
 after_one files (m ∷ ms) (suc i) (x ∷ xs) n j are at is = (are.0, after_one files ms i xs n j are.1 at is)
@@ -32,7 +32,7 @@ one_more files names i js after d are below more =
     let next : suc i ≡ i + 1 = omega arith in
     subst (λ k. AreJournals files (take k names) after) next
     (subst (λ it. AreJournals files (take (suc i) names) it) (sym more.last)
-    (after_one files names i js (get_or names i d) more.journal are (slice_get-get_or names i d below) more.is_file))
+    (after_one files names i js (get_or names i d) more.journal are (slice_get-get_or names i d below) more.lines))
 
 -- `audit-journals` was given its files
 pub has_audited : {F : Type 0} (files : Named) (a : AuditJournalsArguments) (journals : List JournalFile) (image : List ℕ)

@@ -19,7 +19,7 @@ abbrev pub defect_text : Defect → List ℕ
 defect_text (defect.File f) = file_words f
 defect_text (defect.TooLong limit) = codes "this has more than " ++ decimal limit ++ codes " bytes"
 defect_text (defect.LongImage limit) =
-    codes "this has more than " ++ decimal limit ++ codes " bytes, and RAM has no more: give more --pages"
+    codes "this has more than " ++ decimal limit ++ codes " bytes, and RAM has no more: give more --pages, of which there are at most 4096"
 defect_text defect.SameBytes = codes "this has the bytes of the text: it may be the text under another name"
 defect_text (defect.Elf f) = elf_text f
 defect_text (defect.Outside part) = outside_text part

@@ -2,7 +2,7 @@
 use Rattle.std.specs.Borrow.{Bor}
 use Rattle.std.specs.Io.KnownBytes.{Appends}
 use Rattle.std.specs.Str.{bytes_eq}
-use Rattle.std.specs.Prelude.{◌≡◌, ◌⊎◌, ⊤, if◌then◌else◌, codes, ℕ, zero, suc, Bool, true, false, List, [], ◌∷◌, ◌++◌, Option, None, Some, Result, option_map}
+use Rattle.std.specs.Prelude.{◌≡◌, ◌⊎◌, ⊤, if◌then◌else◌, codes, ℕ, zero, suc, Bool, true, false, List, [], ◌∷◌, ◌++◌, Option, None, Some, IfSome, Result, option_map}
 use Rattle.rvm_arguments.specs.declared.arguments.Arguments.{Arguments}
 use Rattle.rvm_arguments.specs.declared.arguments.Arguments.TheVariants.{Run, Asm, Dis, Debug, Script, Move, Audit, Host, Tell, Replay, AuditJournals}
 use Rattle.rvm_arguments.specs.declared.arguments.AsmArguments.{AsmArguments}
@@ -24,6 +24,7 @@ use Rattle.rvm_command.specs.Refusals.{IsTold, refused}
 use Rattle.rvm_host_command.specs.Replays.{HasReplayStatus, HasSessionStatus}
 use Rattle.rvm_host_command.specs.Hosted.{IsHostedTo}
 use Rattle.rvm_host_command.specs.Findings.{HasAuditStatus}
+use Rattle.rvm_journal.specs.Whole.{AreWholeLines}
 use Rattle.rvm_host_command.specs.declared.journal_audit.AuditText.{AuditText}
 use Rattle.rvm_host_command.specs.declared.journal_audit.AuditText.TheVariants.{Order, Summary}
 use Rattle.rvm_host_command.specs.declared.journal_file.JournalFile.{JournalFile}
@@ -181,6 +182,10 @@ abbrev pub IsFileOrNone : (files : Named) → (name : Option (Bor (List ℕ))) �
 IsFileOrNone files None bytes = bytes ≡ []
 IsFileOrNone files (Some name) bytes = IsFile (files name.now) bytes
 
+-- these are the whole lines of a file, if its bytes are known
+abbrev pub IsJournal : (known : Option (List ℕ)) → (lines : List ℕ) → Type 0
+IsJournal known lines = IfSome known (λ bytes. AreWholeLines bytes lines)
+
 -- the session with this name: all that standard input gives, or all bytes of a file
 abbrev pub IsSession : (files : Named) → (name : List ℕ) → (input session : Option (List ℕ)) → Type 0
 IsSession files name input session =
@@ -220,7 +225,7 @@ pub record HasReplayed (files : Named) (a : ReplayArguments) (status : ℕ) (inp
     : Type 0 where
   pub journal : List ℕ
   pub image : List ℕ
-  pub journal_is : IsFile (files a.journal.now) journal
+  pub journal_is : IsJournal (files a.journal.now) journal
   pub image_is : IsFileOrNone files a.image image
   pub ended : IsReplayEnd files a a.script status journal image input output errors
 
@@ -233,13 +238,13 @@ ReplayEnded files a status input output errors =
 -- these are the journals in the files with these names, in order
 abbrev pub AreJournals : (files : Named) → (names : List (Bor (List ℕ))) → List JournalFile → Type 0
 AreJournals files [] [] = ⊤
-AreJournals files (n ∷ ns) (j ∷ js) = IsFile (files n.now) j.bytes.items × AreJournals files ns js
+AreJournals files (n ∷ ns) (j ∷ js) = IsJournal (files n.now) j.bytes.items × AreJournals files ns js
 AreJournals files names journals = ⊥
 
--- one more journal, which has the bytes of a file
+-- one more journal, which has the whole lines of a file
 pub record IsOneMore (known : Option (List ℕ)) (before after : List JournalFile) : Type 0 where
   pub journal : JournalFile
-  pub is_file : IsFile known journal.bytes.items
+  pub lines : IsJournal known journal.bytes.items
   pub last : after ≡ before ++ journal ∷ []
 
 -- what an audit of journals writes: the order, if that is asked for, or else a summary

@@ -14,7 +14,9 @@ pub record TellsRefusal (report : List ℕ) : Type 0 where
 abbrev pub unfound_words : Unfound → List ℕ
 unfound_words unfound.Cause = codes "nothing wrong was found with the files; a device or a pipe is not read again"
 unfound_words unfound.Memory = codes "memory ran out: give this process more"
-unfound_words unfound.Line = codes "the text cannot be read again, so its line is not shown"
+unfound_words unfound.Line = codes "this is no line of a text of its kind (docs/ASSEMBLY.md, docs/SCRIPTS.md); it is not shown, since the text is not UTF-8, or cannot be read again"
+unfound_words unfound.Symbols = codes "the symbols: this is no line that nm -n prints, or its address is below the one before it"
+unfound_words unfound.Journals = codes "no order: give the journals of all hosts, each to its last line"
 unfound_words unfound.InputLine = codes "standard input: this is no line of a script (docs/SCRIPTS.md)"
 unfound_words unfound.LongInput = codes "standard input: this has more than 67108864 bytes"
 unfound_words unfound.RunWrite = codes "nothing wrong was found with the files: a write to standard output, or to a file that the run writes, may have failed"

@@ -15,7 +15,9 @@ ghost use Rattle.rvm_command.specs.Ends.{RunHasStatus};
 ghost use Rattle.rvm_program.specs.Ended.{AsmEnded, AuditEnded, DebugEnded, DisEnded, HasRunTo, HostEnded, IsNamedFile, MoveEnded, RunEnded, ScriptEnded, TellEnded, ToTell, report_name, trace_name, written};
 ghost use Rattle.rvm_program.specs.Files.{IsFile, IsFileRefusal, IsFirst, IsFirstInput, IsImage, IsInput, IsLong, IsLongInput, IsLongSymbols, IsRefusedFile, IsUnread, file_text, max_size, symbols_name};
 
-use crate::files::{MAX_FILE_SIZE, NamedFiles, keep_apart, read_beginning, read_whole, refusal_of};
+use crate::files::{
+    MAX_FILE_SIZE, NamedFiles, keep_apart, keep_read, read_beginning, read_whole, refusal_of,
+};
 use crate::images::{begin_image, check_image, read_image};
 use crate::system::System;
 use either::Either;
@@ -107,7 +109,7 @@ fn run_read<M: PagedMemory + Drop, F: NamedFiles, O: Write, E: Write>(
     ensures refused { IfErr result (λ r. IsFileRefusal r × (O.contents output.new ≡ O.contents output.old)
         × (E.contents errors.new ≡ E.contents errors.old)) }
 {
-    let mut written = create_files(alloc, files, arguments)?;
+    let mut written = create_files(alloc, files, arguments, read)?;
     Ok(run_command::<M, O, _, _, E>(
         alloc,
         arguments,
@@ -121,11 +123,12 @@ fn run_read<M: PagedMemory + Drop, F: NamedFiles, O: Write, E: Write>(
 }
 
 /// Creates or empties the files of the trace and of the report of a run, if it has them. Fails with a refusal if one of
-/// these cannot be created, or if memory runs out.
+/// these cannot be created, if it may be a file that was read, or if memory runs out.
 fn create_files<F: NamedFiles>(
     alloc: Global,
     files: &F,
     arguments: &RunArguments,
+    read: &RunRead<'_>,
 ) -> Result<
     RunFiles<Either<BufWriter<F::Created>, Sink>, Either<BufWriter<F::Created>, Sink>>,
     Refusal,
@@ -136,9 +139,30 @@ fn create_files<F: NamedFiles>(
         (either (writer_contents F.Created.contents) (λ s. None) f.report)) }
     ensures refused { IfErr result IsFileRefusal }
 {
-    let trace = create_named(alloc, files, trace_name(&arguments.trace))?;
-    let report = create_named(alloc, files, report_name(&arguments.report))?;
+    let trace = trace_name(&arguments.trace);
+    let report = report_name(&arguments.report);
+    keep_all_read(files, alloc, trace, read)?;
+    keep_all_read(files, alloc, report, read)?;
+    let trace = create_named(alloc, files, trace)?;
+    let report = create_named(alloc, files, report)?;
     Ok(RunFiles { trace, report })
+}
+
+/// Refuses with `LinkFault` a file that a run is to write, if there is one and it may be one of those that were read.
+fn keep_all_read<F: NamedFiles>(
+    files: &F,
+    alloc: Global,
+    name: Option<&str>,
+    read: &RunRead<'_>,
+) -> Result<(), Refusal>
+    ensures refused { IfErr result IsFileRefusal }
+{
+    let Some(name) = name else {
+        return Ok(());
+    };
+    keep_read(files, alloc, name, read.image)?;
+    keep_read(files, alloc, name, read.input)?;
+    keep_read(files, alloc, name, read.symbols)
 }
 
 /// The name of the file of a trace, if there is one.
@@ -435,12 +459,34 @@ fn read_host<'a, Rt: System + Threads + Wait + 'static, F: NamedFiles>(
         Some(path) => Some(read_told(files, rt.alloc(), path)?),
         None => None,
     };
-    Ok(HostFiles {
+    let read = HostFiles {
         peers: read_told(files, rt.alloc(), arguments.peers)?,
         image,
         secret,
         input: host_input(rt, files, arguments.input)?,
-    })
+    };
+    keep_host_files(files, rt.alloc(), arguments.journal, &read)?;
+    Ok(read)
+}
+
+/// Refuses the file of a host's journal, if it keeps one and that may be a file that was read. Fails with its name and the
+/// refusal.
+fn keep_host_files<'a, F: NamedFiles>(
+    files: &F,
+    alloc: Global,
+    journal: Option<&'a str>,
+    read: &HostFiles,
+) -> Result<(), (&'a str, Refusal)> {
+    let Some(path) = journal else {
+        return Ok(());
+    };
+    let secret = read.secret.as_deref().unwrap_or(&[]);
+    for bytes in [read.peers.as_slice(), read.image.as_slice(), secret] {
+        if let Err(why) = keep_read(files, alloc, path, bytes) {
+            return Err((path, why));
+        }
+    }
+    Ok(())
 }
 
 /// The input of the guest's console: the bytes of a file, or those of standard input as they come, or none if `input`

@@ -61,7 +61,7 @@ impl fmt::Display for Defect {
             Defect::TooLong(limit) => write!(f, "this has more than {limit} bytes"),
             Defect::LongImage(limit) => write!(
                 f,
-                "this has more than {limit} bytes, and RAM has no more: give more --pages"
+                "this has more than {limit} bytes, and RAM has no more: give more --pages, of which there are at most 4096"
             ),
             Defect::SameBytes => write!(
                 f,

@@ -1,6 +1,6 @@
 //! The files that a command line names.
 
-ghost use Rattle.std.specs.Prelude.{◌≡◌, ◌≢◌, ◌⊎◌, ◌<◌, ◌≤◌, ℕ, List, Option, None, IfErr, IfOk, IfSome, IsNone, OnOk, false, length};
+ghost use Rattle.std.specs.Prelude.{◌≡◌, ◌≢◌, ◌⊎◌, ◌<◌, ◌≤◌, ℕ, List, [], Option, None, IfErr, IfOk, IfSome, IsNone, OnOk, false, length};
 ghost use Rattle.std.specs.IoError.{error_kind};
 ghost use Rattle.std.specs.declared.io.ErrorKind.TheVariants as kind;
 ghost use Rattle.rvm_program.specs.Files.{IsApart, IsCreated, IsFile, IsFileRefusal, IsFirst, IsLong, IsOpened, max_size};
@@ -253,6 +253,23 @@ pub(crate) fn keep_apart<F: NamedFiles>(
         return Err(Refusal::LinkFault);
     }
     Ok(())
+}
+
+/// Refuses with `LinkFault` a file that is to be written and has exactly these bytes, which were read: it may be the file
+/// that they were read from, under another name. A file without a byte has nothing to lose.
+pub(crate) fn keep_read<F: NamedFiles>(
+    files: &F,
+    alloc: Global,
+    path: &str,
+    bytes: &[u8],
+) -> Result<(), Refusal>
+    ensures apart { OnOk result ((bytes.now ≡ []) ⊎ IsApart (F.bytes_of files.now path.now) bytes.now) }
+    ensures refused { IfErr result IsFileRefusal }
+{
+    if bytes.is_empty() {
+        return Ok(());
+    }
+    keep_apart(files, alloc, path, bytes)
 }
 
 /// Whether a reader gives these bytes, and nothing after them.

@@ -18,7 +18,7 @@ use crate::line_fault::{LineDefect, LineFault, line_defect};
 use crate::refusal_report::RefusalReport;
 use rvm_arguments::{
     Arguments, AsmArguments, AuditJournalsArguments, DisArguments, GuestArguments, HostArguments,
-    ReplayArguments, RunArguments, ScriptArguments,
+    ReplayArguments, Report, ReportArguments, RunArguments, ScriptArguments,
 };
 use rvm_asm::{AsmError, assemble};
 use rvm_elf::read_image;
@@ -68,6 +68,9 @@ impl<'b, F: NamedFiles> Refusing<'b, F> {
         if let Some(found) = self.find_in_input(run) {
             return Some(found);
         }
+        if let Some(found) = self.find_in_symbols(run) {
+            return Some(found);
+        }
         if let Some(found) = self.find_in_outputs(run) {
             return Some(found);
         }
@@ -84,6 +87,19 @@ impl<'b, F: NamedFiles> Refusing<'b, F> {
             return self.find_in_file(file, MAX_FILE_SIZE);
         }
         self.found(file, unreadable(self.files, self.alloc, file, run.steps))
+    }
+
+    /// What is wrong with the file of the symbols of `run`, if it has one.
+    fn find_in_symbols<'a>(&self, run: &RunArguments<'a>) -> Option<Found<'a>>
+        ensures { IfSome result (IsTrue (F.bytes_of self.now.files.now)) }
+    {
+        match run.report {
+            Some(ReportArguments {
+                report: Report::Profile { symbols },
+                ..
+            }) => self.find_in_file(symbols, MAX_FILE_SIZE),
+            _ => None,
+        }
     }
 
     /// What is wrong with the files that `run` writes, if it writes any.
@@ -209,7 +225,13 @@ impl<'b, F: NamedFiles> Refusing<'b, F> {
         if let Some(found) = self.find_in_optional(replay.image) {
             return Some(found);
         }
-        self.find_in_file(replay.journal, MAX_JOURNAL_SIZE)
+        if let Some(found) = self.find_in_file(replay.journal, MAX_JOURNAL_SIZE) {
+            return Some(found);
+        }
+        match replay.script {
+            Some(STANDARD_INPUT) => None,
+            script => self.find_in_optional(script),
+        }
     }
 
     /// What is wrong with the files of `audit-journals`.

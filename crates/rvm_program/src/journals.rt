@@ -3,7 +3,7 @@
 
 ghost use Rattle.std.specs.Prelude.{◌≡◌, [], ◌∷◌, ◌++◌, IfErr, IfOk, OnErr, OnOk};
 ghost use Rattle.rvm_host_command.specs.Replays.{HasReplayStatus};
-ghost use Rattle.rvm_program.specs.Ended.{AreJournals, IsAnswerEnd, IsAuditEnd, IsFileOrNone, IsOneMore, IsReplayed, JournalsEnded, ReplayEnded, ToTell, text_of, written};
+ghost use Rattle.rvm_program.specs.Ended.{AreJournals, IsAnswerEnd, IsAuditEnd, IsFileOrNone, IsJournal, IsOneMore, IsReplayed, JournalsEnded, ReplayEnded, ToTell, text_of, written};
 ghost use Rattle.rvm_program.specs.Files.{IsFile, IsRefusedFile, Named};
 
 use crate::commands::{STANDARD_INPUT, Told, buffered, read_told, tell_file};
@@ -14,6 +14,7 @@ use rvm_host_command::journal_audit::{AuditText, audit_journals as audit_files};
 use rvm_host_command::journal_file::JournalFile;
 use rvm_host_command::replay_command::replay_command;
 use rvm_host_command::replay_session::replay_session;
+use rvm_journal::whole_size;
 use rvm_mem::PagedMemory;
 use rvm_refusal::Refusal;
 use std::alloc::{AllocError, Global};
@@ -145,7 +146,7 @@ fn read_replayed<'a, F: NamedFiles>(
     files: &F,
     arguments: &ReplayArguments<'a>,
 ) -> Result<ReplayFiles, (&'a str, Refusal)>
-    ensures journal { IfOk result (λ r. IsFile (F.bytes_of files.now arguments.now.journal.now) r.journal.items) }
+    ensures journal { IfOk result (λ r. IsJournal (F.bytes_of files.now arguments.now.journal.now) r.journal.items) }
     ensures image { IfOk result (λ r. IsFileOrNone (F.bytes_of files.now) arguments.now.image r.image.items) }
     ensures refused { IfErr result (λ e. IsRefusedFile (F.bytes_of files.now e.0.now) e.1) }
 {
@@ -296,17 +297,20 @@ fn text_of(order: bool) -> AuditText
     }
 }
 
-/// All bytes of the file of a journal. Fails with its name and the refusal.
+/// The whole lines of the file of a journal. Fails with its name and the refusal.
 fn read_told_journal<'a, F: NamedFiles>(
     files: &F,
     alloc: Global,
     path: &'a str,
 ) -> Result<Vec<u8>, (&'a str, Refusal)>
-    ensures bytes { IfOk result (λ v. IsFile (F.bytes_of files.now path.now) v.items) }
+    ensures lines { IfOk result (λ v. IsJournal (F.bytes_of files.now path.now) v.items) }
     ensures refused { IfErr result (λ e. IsRefusedFile (F.bytes_of files.now e.0.now) e.1) }
 {
     match read_file(files, alloc, path, MAX_JOURNAL_SIZE, Refusal::TooLong) {
-        Ok(bytes) => Ok(bytes),
+        Ok(mut bytes) => {
+            bytes.truncate(whole_size(&bytes));
+            Ok(bytes)
+        }
         Err(why) => Err((path, why)),
     }
 }

@@ -14,8 +14,12 @@ pub(crate) enum Unfound {
     Cause,
     /// Memory ran out.
     Memory,
-    /// A line of a text that cannot be read again.
+    /// A line of a text that is not UTF-8, or cannot be read again.
     Line,
+    /// A line of the symbols of a profile.
+    Symbols,
+    /// The journals of hosts that have no order.
+    Journals,
     /// A line of standard input.
     InputLine,
     /// The length of standard input.
@@ -47,6 +51,9 @@ impl Unfound {
         if report.is(Refusal::TooLong) {
             return too_long(arguments);
         }
+        if report.has(Refusal::NoOrder) {
+            return unordered(arguments);
+        }
         Unfound::Cause
     }
 
@@ -58,7 +65,11 @@ impl Unfound {
             Unfound::Cause =>
                 "nothing wrong was found with the files; a device or a pipe is not read again",
             Unfound::Memory => "memory ran out: give this process more",
-            Unfound::Line => "the text cannot be read again, so its line is not shown",
+            Unfound::Line =>
+                "this is no line of a text of its kind (docs/ASSEMBLY.md, docs/SCRIPTS.md); it is not shown, since the text is not UTF-8, or cannot be read again",
+            Unfound::Symbols =>
+                "the symbols: this is no line that nm -n prints, or its address is below the one before it",
+            Unfound::Journals => "no order: give the journals of all hosts, each to its last line",
             Unfound::InputLine => "standard input: this is no line of a script (docs/SCRIPTS.md)",
             Unfound::LongInput => "standard input: this has more than 67108864 bytes",
             Unfound::RunWrite =>
@@ -79,6 +90,7 @@ impl Unfound {
 fn unkept(arguments: &Arguments) -> Unfound {
     match arguments {
         Arguments::Debug(_) => Unfound::InputLine,
+        Arguments::Run(_) => Unfound::Symbols,
         _ => Unfound::Line,
     }
 }
@@ -87,6 +99,14 @@ fn unkept(arguments: &Arguments) -> Unfound {
 fn too_long(arguments: &Arguments) -> Unfound {
     match arguments {
         Arguments::Debug(_) => Unfound::LongInput,
+        _ => Unfound::Cause,
+    }
+}
+
+/// What has no order.
+fn unordered(arguments: &Arguments) -> Unfound {
+    match arguments {
+        Arguments::AuditJournals(_) => Unfound::Journals,
         _ => Unfound::Cause,
     }
 }

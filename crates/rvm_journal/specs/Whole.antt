@@ -1,0 +1,11 @@
+-- The whole lines of the bytes of a journal.
+use Rattle.std.specs.Prelude.{◌≡◌, ◌⊎◌, true, List, [], ◌++◌, ℕ, codes}
+use Rattle.std.specs.List.{list_all}
+use Rattle.rvm_journal.specs.Written.{is_no_feed}
+
+-- these are the whole lines of some bytes: all bytes up to and with the last line feed
+pub record AreWholeLines (bytes whole : List ℕ) : Type 0 where
+  pub rest : List ℕ
+  pub all : bytes ≡ whole ++ rest
+  pub part : list_all is_no_feed rest ≡ true
+  pub ends : (whole ≡ []) ⊎ ((before : List ℕ) × (whole ≡ before ++ codes "\n"))
