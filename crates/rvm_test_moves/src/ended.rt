@@ -102,6 +102,7 @@ impl MoveResult {
             &to_run(),
             image,
             &[],
+            &[],
             &mut output,
             &mut RunFiles {
                 trace: io::sink(),
