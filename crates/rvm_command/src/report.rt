@@ -61,7 +61,7 @@ fn write_flushed<M: Memory, W: Write>(
     writer: &mut W,
 ) -> Result<(), LinkFault>
     ensures text { OnOk result (Appends (W.contents writer.old) (W.contents writer.new)
-        (written_report report (pieces_of kept.now.segments.items) symbols.now kept.now.counts guest.old.guest)) }
+        (written_report report.entry (pieces_of kept.now.segments.items) symbols.now kept.now.counts guest.old.guest)) }
     ensures guest { guest.new ≡ guest.old }
 {
     write_reported(guest, report, symbols, kept, writer)?;
@@ -77,7 +77,7 @@ fn write_reported<M: Memory, W: Write>(
     writer: &mut W,
 ) -> Result<(), LinkFault>
     ensures text { OnOk result (Appends (W.contents writer.old) (W.contents writer.new)
-        (written_report report (pieces_of kept.now.segments.items) symbols.now kept.now.counts guest.old.guest)) }
+        (written_report report.entry (pieces_of kept.now.segments.items) symbols.now kept.now.counts guest.old.guest)) }
     ensures guest { guest.new ≡ guest.old }
 {
     match report {

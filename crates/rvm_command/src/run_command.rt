@@ -77,7 +77,7 @@ pub fn run_command<M: PagedMemory + Drop, O: Write, T: Write, R: Write, E: Write
         (T.contents files.old.trace) (T.contents files.new.trace)
         (R.contents files.old.report) (R.contents files.new.report))
         (E.contents errors.old) (E.contents errors.new)) }
-    ensures output { (end : Result Ended Refused) × IsRunEnd arguments.now image.now input.now end
+    ensures output { (end : Result Ended Refused) × IsRunEnd arguments.now image.now input.now symbols.now end
         (O.contents output.old) (O.contents output.new) (T.contents files.old.trace) (T.contents files.new.trace)
         (R.contents files.old.report) (R.contents files.new.report) }
     ensures unbegun { CanRun arguments.now image.now symbols.now
@@ -272,7 +272,7 @@ fn is_counted(asked: &Option<ReportArguments>) -> bool
 
 /// Whether a report wants to know how often words ran.
 fn wants_counts(report: Report) -> bool
-    ensures { result ≡ wants_counts report }
+    ensures { result ≡ wants_counts report.entry }
 {
     match report {
         Report::Signature(_) => false,
