@@ -1,13 +1,17 @@
 -- Going through parts: where it begins, how a turn leaves it, and where it ends.
-use Rattle.std.proofs.Common.{◌≡◌, ◌∙◌, ◌≢◌, ℕ, zero, suc, ◌+◌, ◌<◌, ◌≤◌, ◌==◌, not, Bool, true, false, if◌then◌else◌, List, [], ◌∷◌, ◌++◌, drop, get_or, set, length, length-append, length-drop, length-set, replicate, Option, None, Some, refl, sym, ap, subst, arith, inl, inr}
+use Rattle.std.proofs.Common.{◌≡◌, ◌∙◌, ◌≢◌, ℕ, zero, suc, ◌+◌, ◌*◌, ◌<◌, ◌≤◌, ◌==◌, not, Bool, true, false, if◌then◌else◌, List, [], ◌∷◌, ◌++◌, drop, get_or, set, length, length-append, length-drop, length-set, replicate, Option, None, Some, refl, sym, ap, subst, arith, inl, inr}
 use Rattle.std.specs.Prelude.{MatchOption, is_some, slice_get, ◌⊎◌}
 use Rattle.std.proofs.lemmas.Bool.{cases_eq, cases_lt, eq-eqb, ne_eqb}
 use Rattle.std.proofs.lemmas.List.{get_or-set_other, get_or-set_same, get_or_default}
 use Rattle.std.proofs.lemmas.Option.{MatchOption-at_none, MatchOption-at_some, same_Some, slice_get_read, slice_get_within}
 use Rattle.rvm_recorder.specs.declared.item.ItemRef.{ItemRef}
 use Rattle.rvm_recorder.specs.declared.item.ItemRef.TheVariants.{Entry, Rounds, Steps}
+use Rattle.rvm_recorder.specs.declared.rounds.Rounds.{Rounds as RoundRow}
+use Rattle.rvm_recorder.specs.declared.steps.Steps.{Steps as StepRow}
 use Rattle.rvm_recorder.specs.Entries.{PlainEntry}
 use Rattle.rvm_recorder.specs.Items.{all_of, entries_at, rounds_of, steps_in_turn}
+use Rattle.rvm_recorder.proofs.InRounds.{rounds_length}
+use Rattle.rvm_recorder.proofs.StepRuns.{steps_length}
 use Rattle.rvm_recorder.proofs.Spans.{drop_all_of, drop_at, drop_drop, next_at, next_left}
 use Rattle.rvm_protocol.specs.Pages.{put}
 use Rattle.rvm_core.specs.declared.event.Event.{Event}
@@ -73,6 +77,18 @@ module _ (j : Journals) (is_cut : ℕ → Bool) (x : ℕ) (lt : x < j.openings.c
       subst (λ k. IsPassageOf (put at x (at x + length (rounds_of r))) k) (sym t.1)
       (pass_run (rounds_of r) (rounds_at x r.turn r.harts r.steps r.drain r.count) at (places_of old.made)
       (marked old.spent.items) rest m split (rounds_are x r.turn r.harts r.steps r.drain r.count))
+
+-- steps and rounds are passed at once
+pub steps_passed : (version count x : ℕ) (item : ItemRef) (s : StepRow) (row : Row) (old : Known) → item ≡ Steps s
+    → row.entries ≡ s.count → ItemPasses version count x item row old old
+steps_passed version count x item s row old is n_is =
+    subst (λ i. ItemPasses version count x i row old old) (sym is) (n_is ∙ sym (steps_length s.turn s.harts s.count), refl)
+
+pub rounds_passed : (version count x : ℕ) (item : ItemRef) (r : RoundRow) (row : Row) (old : Known) → item ≡ Rounds r
+    → row.entries ≡ r.count * (r.steps + 1) → ItemPasses version count x item row old old
+rounds_passed version count x item r row old is n_is =
+    subst (λ i. ItemPasses version count x i row old old) (sym is)
+    (n_is ∙ sym (rounds_length r.turn r.harts r.steps r.drain r.count), refl)
 
 -- what an item that was passed leaves
 no_frame : (o : Option (List ℕ)) (b : Bool) → b ≡ not (is_some o) → b ≡ true → o ≡ None
