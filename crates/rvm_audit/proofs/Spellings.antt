@@ -74,6 +74,6 @@ module _ {K : Type 0} (version count x from : ℕ) (f : Frame) (o : Option K) (I
 pub stays_blocked : {E : Type 0} (version count x : ℕ) (made : Places) (spent : ℕ → Bool) (e : HostEvent) (r : Result Bool E)
     (from : ℕ) (f : Frame) → e ≡ Came from f → IfOk r (λ b. b ≡ false → MayNotCome version count x made spent from f)
     → IfOk r (λ b. b ≡ false → MayNotPass version count x made spent e)
-stays_blocked version count x made spent e (Ok b) from f is never =
-    λ so. subst (MayNotPass version count x made spent) (sym is) (never so)
-stays_blocked version count x made spent e (Err why) from f is never = tt
+stays_blocked version count x made spent e (Ok b) from f is told =
+    λ so. subst (MayNotPass version count x made spent) (sym is) (told so)
+stays_blocked version count x made spent e (Err why) from f is told = tt
