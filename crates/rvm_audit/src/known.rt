@@ -114,9 +114,7 @@ impl Known {
     {
         match came(exchange) {
             None => Ok(true),
-            Some((from, frame)) => {
-                self.may_come(alloc, host, count, version, from, frame.get())
-            }
+            Some((from, frame)) => { self.may_come(alloc, host, count, version, from, frame.get()) }
         }
     }
 
