@@ -1,6 +1,6 @@
 -- The parts of a list of journals, and how an audit of them ends.
-use Rattle.std.proofs.Common.{◌≡◌, ◌∙◌, ℕ, zero, suc, ◌+◌, ◌^◌, ◌<◌, ◌≤◌, List, [], ◌∷◌, ◌++◌, get_or, length, length-append, Some, refl, sym, ap, subst, arith, inl, inr}
-use Rattle.std.specs.Prelude.{slice_get}
+use Rattle.std.proofs.Common.{◌≡◌, ◌∙◌, ℕ, zero, suc, ◌+◌, ◌^◌, ◌<◌, ◌≤◌, Bool, true, false, List, [], ◌∷◌, ◌++◌, get_or, length, length-append, Option, None, Some, refl, sym, ap, subst, arith, inl, inr}
+use Rattle.std.specs.Prelude.{MatchOption, is_some, slice_get}
 use Rattle.std.proofs.lemmas.Option.{same_Some}
 use denote.Ref.{Bor}
 use Rattle.rvm_recorder.specs.Entries.{PlainEntry}
@@ -8,7 +8,9 @@ use Rattle.rvm_recorder.specs.History.{History}
 use Rattle.rvm_core.specs.declared.event.Event.{Event}
 use Rattle.rvm_audit.specs.Orders.{IsDeadEnd, IsOrder, Journals, cut}
 use Rattle.rvm_audit.proofs.Gets.{get_last}
-use Rattle.rvm_audit.specs.Audits.{ArePartsOf, histories_of}
+use Rattle.rvm_audit.specs.Audits.{ArePartsOf, entries_of, histories_of}
+use Rattle.rvm_audit.specs.Cuts.{AreContradicted, AreExplained, marked}
+use Rattle.rvm_audit.specs.Passing.{HasPassed}
 use Rattle.rvm_audit.specs.declared.part.Part.{Part}
 use Rattle.rvm_audit.specs.declared.part.Place.{Place}
 use Rattle.rvm_audit.specs.ListOrders.{journals_of, no_history}
@@ -84,3 +86,30 @@ module _ (j : Journals) (places : List Place) (events : List Event) (ended : IsE
   pub at_dead_end : (x : ℕ) → x < j.openings.count → taken places x < length (j.entries x)
       → IsDeadEnd j (taken places) × ((events : List Event) × IsOrder (cut (taken places) j) events)
   at_dead_end x lt more = (record { within = ended.within; rest = (x, lt, more); stuck = ended.stuck }, (events, ended.order))
+
+-- going through the journals came to an end
+module _ (journals : List (Bor History)) (cuts : List Bool) (places seen : List Place)
+    (passed : HasPassed (journals_of (histories_of journals)) (marked cuts) (taken places)) (same : seen ≡ places) where
+  abbrev AllDone : Type 0
+  AllDone = (x : ℕ) → x < length journals → length (entries_of (histories_of journals) x) ≤ taken seen x
+
+  abbrev IsUnfinished : ℕ → Type 0
+  IsUnfinished x = (x < length journals) × (taken seen x < length (entries_of (histories_of journals) x))
+
+  pub are_contradicted : (o : Option ℕ) (b : Bool) → MatchOption o AllDone IsUnfinished → b ≡ is_some o → b ≡ true
+      → AreContradicted (histories_of journals) cuts
+  are_contradicted None b done is so = cc
+  are_contradicted (Some x) b more is so =
+      passed.contradiction x (there_in journals x more.0)
+      (subst (λ (ps : List Place). taken ps x < length (entries_of (histories_of journals) x)) same more.1)
+
+  pub are_explained : (o : Option ℕ) (b : Bool) → MatchOption o AllDone IsUnfinished → b ≡ is_some o → b ≡ false
+      → AreExplained (histories_of journals) cuts
+  are_explained None b done is so =
+      let e =
+      passed.explained
+      (λ x lt. subst (λ (ps : List Place). length (entries_of (histories_of journals) x) ≤ taken ps x) same
+      (done x (there_of journals x lt)))
+      in
+      record { sequence = e.0; explanation = e.1 }
+  are_explained (Some x) b more is so = cc

@@ -1,13 +1,17 @@
 -- Going through parts: where it begins, how a turn leaves it, and where it ends.
-use Rattle.std.proofs.Common.{◌≡◌, ◌∙◌, ◌≢◌, ℕ, zero, suc, ◌+◌, ◌<◌, ◌≤◌, ◌==◌, not, Bool, true, false, if◌then◌else◌, List, [], ◌∷◌, ◌++◌, drop, get_or, set, length, length-append, length-drop, length-set, replicate, Option, None, Some, refl, sym, ap, subst, arith, inl, inr}
+use Rattle.std.proofs.Common.{◌≡◌, ◌∙◌, ◌≢◌, ℕ, zero, suc, ◌+◌, ◌*◌, ◌<◌, ◌≤◌, ◌==◌, not, Bool, true, false, if◌then◌else◌, List, [], ◌∷◌, ◌++◌, drop, get_or, set, length, length-append, length-drop, length-set, replicate, Option, None, Some, refl, sym, ap, subst, arith, inl, inr}
 use Rattle.std.specs.Prelude.{MatchOption, is_some, slice_get, ◌⊎◌}
 use Rattle.std.proofs.lemmas.Bool.{cases_eq, cases_lt, eq-eqb, ne_eqb}
 use Rattle.std.proofs.lemmas.List.{get_or-set_other, get_or-set_same, get_or_default}
 use Rattle.std.proofs.lemmas.Option.{MatchOption-at_none, MatchOption-at_some, same_Some, slice_get_read, slice_get_within}
 use Rattle.rvm_recorder.specs.declared.item.ItemRef.{ItemRef}
 use Rattle.rvm_recorder.specs.declared.item.ItemRef.TheVariants.{Entry, Rounds, Steps}
+use Rattle.rvm_recorder.specs.declared.rounds.Rounds.{Rounds as RoundRow}
+use Rattle.rvm_recorder.specs.declared.steps.Steps.{Steps as StepRow}
 use Rattle.rvm_recorder.specs.Entries.{PlainEntry}
 use Rattle.rvm_recorder.specs.Items.{all_of, entries_at, rounds_of, steps_in_turn}
+use Rattle.rvm_recorder.proofs.InRounds.{rounds_length}
+use Rattle.rvm_recorder.proofs.StepRuns.{steps_length}
 use Rattle.rvm_recorder.proofs.Spans.{drop_all_of, drop_at, drop_drop, next_at, next_left}
 use Rattle.rvm_protocol.specs.Pages.{put}
 use Rattle.rvm_core.specs.declared.event.Event.{Event}
@@ -74,10 +78,22 @@ module _ (j : Journals) (is_cut : ℕ → Bool) (x : ℕ) (lt : x < j.openings.c
       (pass_run (rounds_of r) (rounds_at x r.turn r.harts r.steps r.drain r.count) at (places_of old.made)
       (marked old.spent.items) rest m split (rounds_are x r.turn r.harts r.steps r.drain r.count))
 
+-- steps and rounds are passed at once
+pub steps_passed : (version count x : ℕ) (item : ItemRef) (s : StepRow) (row : Row) (old : Known) → item ≡ Steps s
+    → row.entries ≡ s.count → ItemPasses version count x item row old old
+steps_passed version count x item s row old is n_is =
+    subst (λ i. ItemPasses version count x i row old old) (sym is) (n_is ∙ sym (steps_length s.turn s.harts s.count), refl)
+
+pub rounds_passed : (version count x : ℕ) (item : ItemRef) (r : RoundRow) (row : Row) (old : Known) → item ≡ Rounds r
+    → row.entries ≡ r.count * (r.steps + 1) → ItemPasses version count x item row old old
+rounds_passed version count x item r row old is n_is =
+    subst (λ i. ItemPasses version count x i row old old) (sym is)
+    (n_is ∙ sym (rounds_length r.turn r.harts r.steps r.drain r.count), refl)
+
 -- what an item that was passed leaves
 no_frame : (o : Option (List ℕ)) (b : Bool) → b ≡ not (is_some o) → b ≡ true → o ≡ None
-no_frame None b is yes = refl
-no_frame (Some bytes) b is yes = absurd cc
+no_frame None b is so = refl
+no_frame (Some bytes) b is so = absurd cc
 
 module _ (version count x : ℕ) (old new : Known) where
   pub as_many : (item : ItemRef) (row : Row) → ItemPasses version count x item row old new → row.entries ≡ length (entries_at item)
@@ -249,10 +265,10 @@ module _ (parts : List Part) (cuts : List Bool) (places : List Place) (old new :
       same : new ≡ old
       same = blocked_same part.version (length parts) host old new item blocks
 
-      pub still_passing : IsPassing parts cuts places new
+      still_passing : IsPassing parts cuts places new
       still_passing = subst (λ (k : Known). IsPassing parts cuts places k) (sym same) turn.passing
 
-      pub one_more_blocked : AllBlocked parts cuts places new (host + 1)
+      one_more_blocked : AllBlocked parts cuts places new (host + 1)
       one_more_blocked =
           subst (λ (k : Known). AllBlocked parts cuts places k (host + 1)) (sym same)
           (one_blocked old turn.lower
@@ -263,12 +279,12 @@ module _ (parts : List Part) (cuts : List Bool) (places : List Place) (old new :
       size : row.entries ≡ length (entries_at item)
       size = as_many part.version (length parts) host old new item row t
 
-      pub items_left : place.items < length part.items.now
+      items_left : place.items < length part.items.now
       items_left =
           let l = ap (λ (xs : List (List PlainEntry)). length xs) is_next.split in
           omega (arith, l, length-drop place.items part.items.now)
 
-      pub entries_within : place.entries + row.entries ≤ length (entries_in part)
+      entries_within : place.entries + row.entries ≤ length (entries_in part)
       entries_within =
           let w = at_place.within in
           let l = ap (λ (xs : List PlainEntry). length xs) split in
@@ -340,18 +356,14 @@ module _ (parts : List Part) (cuts : List Bool) (places : List Place) (old new :
           subst (λ (v : ℕ → ℕ). IsPassage j (marked cuts) v (places_of new.made) (marked new.spent.items))
           (λ i x. (ap (λ k. put (taken places) host k x) size_is ∙ moved x) i) one
 
-      pub goes_on_passing : IsPassing parts cuts behind new
+      goes_on_passing : IsPassing parts cuts behind new
       goes_on_passing = record {
         long = length-set places host next ∙ turn.passing.long;
         spent =
-            ap (λ (k : Known). length k.spent.items) refl
-            ∙ spent_long (same_spent part.version (length parts) host old new item row t);
+            ap (λ s. length s.items) (same_spent part.version (length parts) host old new item row t) ∙ turn.passing.spent;
         each = at_each;
         passage = passage;
       }
-        where
-          spent_long : new.spent ≡ old.spent → length new.spent.items ≡ length parts
-          spent_long is = ap (λ s. length s.items) is ∙ turn.passing.spent
 
       -- if it made no frame, the hosts below go on being blocked
       silent : row.is_silent ≡ true → AllBlocked parts cuts behind new host
@@ -366,10 +378,44 @@ module _ (parts : List Part) (cuts : List Bool) (places : List Place) (old new :
           (turn.lower x other lt at)))
 
       -- after a frame was made, the first host has the turn
-      pub lower_blocked : (b : Bool) (k : ℕ) → b ≡ row.is_silent → k ≡ (if b then host else 0)
+      lower_blocked : (b : Bool) (k : ℕ) → b ≡ row.is_silent → k ≡ (if b then host else 0)
           → AllBlocked parts cuts behind new k
       lower_blocked true k silent_is k_is = subst (AllBlocked parts cuts behind new) (sym k_is) (silent (sym silent_is))
       lower_blocked false k silent_is k_is = λ x other lt at. absurd (omega (arith, lt, k_is))
+
+  -- what the turn leaves
+  module _ (item : ItemRef) (is_next : IsNextItem part place item) (o : Option Row)
+      (came : MatchOption o (ItemBlocks part.version (length parts) host item old new)
+      (λ row. ItemPasses part.version (length parts) host item row old new)) where
+    blocks : o ≡ None → ItemBlocks part.version (length parts) host item old new
+    blocks is =
+        MatchOption-at_none (ItemBlocks part.version (length parts) host item old new)
+        (λ row. ItemPasses part.version (length parts) host item row old new) is came
+
+    pub none_passing : o ≡ None → IsPassing parts cuts places new
+    none_passing is = still_passing item is_next (blocks is)
+
+    pub none_blocked : o ≡ None → AllBlocked parts cuts places new (host + 1)
+    none_blocked is = one_more_blocked item is_next (blocks is)
+
+    module _ (row : Row) (is : o ≡ Some row) where
+      pub passes : ItemPasses part.version (length parts) host item row old new
+      passes =
+          MatchOption-at_some (ItemBlocks part.version (length parts) host item old new)
+          (λ r. ItemPasses part.version (length parts) host item r old new) row is came
+
+      pub some_items_left : place.items < length part.items.now
+      some_items_left = items_left item is_next row passes
+
+      pub some_entries_within : place.entries + row.entries ≤ length (entries_in part)
+      some_entries_within = entries_within item is_next row passes
+
+      pub some_passing : IsPassing parts cuts (behind item is_next row passes) new
+      some_passing = goes_on_passing item is_next row passes
+
+      pub some_blocked : (k : ℕ) → k ≡ (if row.is_silent then host else 0)
+          → AllBlocked parts cuts (behind item is_next row passes) new k
+      some_blocked k k_is = lower_blocked item is_next row passes row.is_silent k refl k_is
 
 -- THE END
 

@@ -1,19 +1,21 @@
 -- The bytes of a frame that comes.
 use Rattle.std.proofs.Common.{◌≡◌, ◌∙◌, ℕ, ◌<◌, ◌&&◌, ◌||◌, not, Bool, true, false, Option, Some, None, List, [], ◌∷◌, MatchOption, refl, sym, ap, subst}
-use Rattle.std.specs.Prelude.{Vec, is_some, ◌⊎◌}
+use Rattle.std.specs.Prelude.{IfOk, Vec, Result, Ok, Err, is_some, ◌⊎◌}
 use Rattle.std.specs.BTreeMap.{BTreeMap, is_at}
 use Rattle.std.specs.Cmp.Lexicographic.{slice_cmp}
 use Rattle.std.specs.Map.{lookup}
 use Rattle.std.specs.Ordering.{nat_cmp}
 use Rattle.std.proofs.lemmas.Bool.{lt-ltb, ne_eqb}
+use Rattle.std.proofs.lemmas.Option.{MatchOption-at_none}
 use Rattle.rvm_frame.specs.declared.addressed.Addressed.{Addressed}
 use Rattle.rvm_frame.specs.declared.frame.Frame.{Frame}
 use Rattle.rvm_frame.specs.Grammar.{HasSpelling, sent, spelling}
+use Rattle.rvm_message.specs.declared.event.HostEvent.{HostEvent}
+use Rattle.rvm_message.specs.declared.event.HostEvent.TheVariants.{Came}
 use Rattle.rvm_protocol.specs.Host.{is_there}
 use Rattle.rvm_audit.specs.Hosts.{HasBytes, coming}
 use Rattle.rvm_audit.specs.Merging.{IsKey, IsNoFrame, IsPlaced, IsUnplaced, Places, places_of}
-use Rattle.rvm_audit.specs.Passing.{MayCome, MayNotCome}
-use Rattle.rvm_audit.proofs.Steps.{or_true}
+use Rattle.rvm_audit.specs.Passing.{MayNotCome, MayNotPass}
 
 -- a map without entries has no place for any key
 pub no_place : {A : Type 0} (map : BTreeMap (Vec ℕ A) ℕ) → map.entries ≡ [] → (key : List ℕ) → places_of map key ≡ None
@@ -56,30 +58,22 @@ placed version count x from f places key None k found =
 placed version count x from f places key (Some n) k found =
     record { bytes = k.bytes; other = k.other; same = k.same; there = ap places (sym k.key_is) ∙ sym found }
 
-pub unplaced : (version count x from : ℕ) (f : Frame) (places : Places) → IsNoFrame version count x from f
-    → IsUnplaced version count x from f places
-unplaced version count x from f places never = λ bytes other same. absurd (never bytes other same)
+-- a frame without a key has no place, and may not come
+module _ {K : Type 0} (version count x from : ℕ) (f : Frame) (o : Option K) (IsIts : K → Type 0)
+    (found : MatchOption o (IsNoFrame version count x from f) IsIts) (none : o ≡ None) where
+  never : IsNoFrame version count x from f
+  never = MatchOption-at_none (IsNoFrame version count x from f) IsIts none found
 
-both_false : (a b : Bool) → (a || b) ≡ false → (a ≡ false) × (b ≡ false)
-both_false true b h = cc
-both_false false b h = (refl, h)
+  pub unplaced : (places : Places) → IsUnplaced version count x from f places
+  unplaced places = λ bytes other same. absurd (never bytes other same)
 
--- whether a frame may have been made, by its key
-module _ (version count x from : ℕ) (f : Frame) (made : Places) (spent : ℕ → Bool) where
-  pub may_not_come : IsNoFrame version count x from f → MayNotCome version count x made spent from f
-  may_not_come never = λ bytes other same. absurd (never bytes other same)
+  pub may_not_come : (made : Places) (spent : ℕ → Bool) → MayNotCome version count x made spent from f
+  may_not_come made spent = λ bytes other same. absurd (never bytes other same)
 
-  module _ (key : List ℕ) (k : IsKey version count x from f key) (b : Bool) (is : b ≡ (spent from || is_some (made key))) where
-    pub comes_if : b ≡ true → MayCome version count x made spent from f
-    comes_if yes = record {
-      bytes = k.bytes;
-      other = k.other;
-      same = k.same;
-      may = subst (λ (m : List ℕ). (spent from ≡ true) ⊎ (is_some (made m) ≡ true)) k.key_is
-          (or_true (spent from) (is_some (made key)) (sym is ∙ yes));
-    }
-
-    pub stays_if : b ≡ false → MayNotCome version count x made spent from f
-    stays_if no_so = λ bytes other same.
-        subst (λ (m : List ℕ). (spent from ≡ false) × (is_some (made m) ≡ false))
-        (sym (one_key version count x from f key bytes k same)) (both_false (spent from) (is_some (made key)) (sym is ∙ no_so))
+-- what a frame that may not come says of the event that it came
+pub stays_blocked : {E : Type 0} (version count x : ℕ) (made : Places) (spent : ℕ → Bool) (e : HostEvent) (r : Result Bool E)
+    (from : ℕ) (f : Frame) → e ≡ Came from f → IfOk r (λ b. b ≡ false → MayNotCome version count x made spent from f)
+    → IfOk r (λ b. b ≡ false → MayNotPass version count x made spent e)
+stays_blocked version count x made spent e (Ok b) from f is told =
+    λ so. subst (MayNotPass version count x made spent) (sym is) (told so)
+stays_blocked version count x made spent e (Err why) from f is told = tt

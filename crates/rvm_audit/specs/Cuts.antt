@@ -25,7 +25,7 @@ pub record Contradicts (j : Journals) (is_cut : ℕ → Bool) (places : ℕ → 
   pub more : (x : ℕ) → x < j.openings.count → members x ≡ true → is_cut x ≡ true → places x < length (j.entries x)
   pub rest : (x : ℕ) × (x < j.openings.count) × (members x ≡ true) × (places x < length (j.entries x))
 
--- some of the hosts contradict one another at some places
+-- at some places, some of the hosts contradict one another
 pub record IsContradiction (j : Journals) (is_cut : ℕ → Bool) : Type 0 where
   pub places : ℕ → ℕ
   pub members : ℕ → Bool

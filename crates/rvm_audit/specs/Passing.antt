@@ -75,7 +75,7 @@ pub record HasPassed (j : Journals) (is_cut : ℕ → Bool) (places : ℕ → �
       → (sequence : List HostEntry) × IsExplanation j is_cut sequence
   pub contradiction : (x : ℕ) → x < j.openings.count → places x < length (j.entries x) → IsContradiction j is_cut
 
--- THE CODE'S
+-- WHAT THE CODE KEEPS
 
 module _ (version count x : ℕ) where
   -- an entry was passed, and its frame, if it made one, has a place

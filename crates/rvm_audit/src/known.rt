@@ -30,7 +30,7 @@ pub(crate) struct Passed {
 }
 
 impl Known {
-    /// No frame is known of this many hosts.
+    /// Nothing is known of the frames of this many hosts.
     pub(crate) fn new(alloc: Global, hosts: usize) -> Result<Known, AllocError>
         ensures made { IfOk result (λ k. (key : List ℕ) → places_of k.made key ≡ None) }
         ensures spent { IfOk result (λ k. k.spent.items ≡ replicate hosts false) }
@@ -106,15 +106,15 @@ impl Known {
     ) -> Result<bool, AllocError>
         requires all { length self.now.spent.items ≡ count }
         ensures yes { IfOk result (λ b. b ≡ true
-            → MayPass version count host (places_of self.now.made) (marked self.now.spent.items) exchange.now.event) }
+            → MayPass version count host (places_of self.now.made) (marked self.now.spent.items)
+            exchange.now.event) }
         ensures no { IfOk result (λ b. b ≡ false
-            → MayNotPass version count host (places_of self.now.made) (marked self.now.spent.items) exchange.now.event) }
+            → MayNotPass version count host (places_of self.now.made) (marked self.now.spent.items)
+            exchange.now.event) }
     {
         match came(exchange) {
             None => Ok(true),
-            Some((from, frame)) => {
-                self.may_come(alloc, host, count, version, from, frame.get())
-            }
+            Some((from, frame)) => { self.may_come(alloc, host, count, version, from, frame.get()) }
         }
     }
 

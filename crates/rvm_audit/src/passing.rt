@@ -64,11 +64,10 @@ fn pass_turn(
 {
     let part = parts[host as usize];
     let place = places[host as usize];
-    if place.items >= part.items.len() {
+    let Some(item) = part.items.get(place.items) else {
         return Ok(end_journal(known, cuts[host as usize], host));
-    }
+    };
     let hosts = parts.len() as u8;
-    let item = &part.items[place.items];
     match known.pass_item(alloc, host, hosts, part.version, item.look())? {
         None => Ok(host + 1),
         Some(passed) => {

@@ -1,16 +1,8 @@
-use Rattle.std.proofs.Common.{◌≡◌, ◌∙◌, ◌∷◌, ap, true}
 use Rattle.rvm_audit.specs.Merging.{places_of}
-use Rattle.rvm_audit.proofs.Spellings.{is_coming, placed, there_from}
+use Rattle.rvm_audit.proofs.Spellings.{unplaced}
 use Rattle.rvm_audit.proofs.merge.place_of.Goals as goal
 
-pub returns : goal.returns
-returns c =
-    let not_false = c.if-not-has_spelling.false in
-    let is : c.has_spelling.result ≡ true = cc in
-    placed c.args.version c.args.count c.args.host c.args.from c.args.frame.now (places_of c.args.places.now) _
-    c.as_slice-2.result.now c.lookup.result
-    (there_from c.args.host c.args.count c.args.from c.if-from-count.false c.if-from-host.false)
-    (c.has_spelling.ensures.0 is)
-    (is_coming c.args.from c.args.host c.args.frame.now c.in_ok-copy.field-0 c.in_ok-copy.ensures.copy)
-    (c.as_slice-2.ensures.value ∙ c.in_ok-key.ensures
-    ∙ ap (λ bytes. c.args.from ∷ bytes) (c.as_slice.ensures.value ∙ c.in_ok-bytes.ensures)) c.lookup.ensures
+pub returns-in-None : goal.returns-in-None
+returns-in-None c =
+    unplaced c.args.version c.args.count c.args.host c.args.from c.args.frame.now c.in_ok-key_of_coming.field-0 _
+    c.in_ok-key_of_coming.ensures c.in-None.is (places_of c.args.places.now)
