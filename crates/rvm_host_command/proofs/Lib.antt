@@ -10,6 +10,7 @@ mod Counting
 mod SummaryLines
 pub mod OneWorld
 mod Showing
+mod Replayed
 pub mod Walks
 pub mod Law
 mod WorkedProcesses

@@ -2,7 +2,7 @@
 use Rattle.std.proofs.Common.{◌≡◌, ◌∙◌, ℕ, zero, suc, ◌+◌, ◌-◌, ◌%◌, ◌<◌, ◌≤◌, min, Bool, true, false, cond, ◌&&◌, List, [], ◌∷◌, ◌++◌, length, map, take, drop, Option, Some, None, Result, Ok, Err, option_map, refl, sym, ap, subst, append_assoc, arith, length-append, inl, inr, ◌⊎◌, ◌==◌}
 use native.Mathlib.Nat.{mod-add-mod}
 use Rattle.std.specs.Option.{option_and_then}
-use Rattle.std.specs.Prelude.{codes, nat_le, nat_lt, slice_get}
+use Rattle.std.specs.Prelude.{IfErr, IsErrAnd, codes, nat_le, nat_lt, slice_get}
 use Rattle.std.specs.Str.{bytes_eq}
 use Rattle.std.proofs.lemmas.Bool.Decides.{nat_tests}
 use Rattle.std.proofs.lemmas.List.{append-nil, length-map, map-append}
@@ -21,6 +21,8 @@ use Rattle.rvm_message.specs.declared.event.Command.{Command}
 use Rattle.rvm_message.specs.declared.event.HostEvent.{HostEvent}
 use Rattle.rvm_message.specs.declared.reply.HostReply.{HostReply}
 use Rattle.rvm_message.specs.Exchanges.{step_of_hart}
+use Rattle.rvm_recorder.specs.declared.error.RecordError.{RecordError}
+use Rattle.rvm_recorder.specs.declared.error.RecordError.TheVariants as record_error
 use Rattle.rvm_recorder.specs.Entries.{PlainEntry}
 use Rattle.rvm_recorder.specs.History.{Recording, count_of, with_entries, with_room}
 use Rattle.rvm_recorder.specs.Slices.{IsSlice, IsSliceRecorded, most_of, step_of}
@@ -30,8 +32,8 @@ use Rattle.rvm_journal.specs.declared.replay.JournalFault.{JournalFault}
 use Rattle.rvm_journal.specs.declared.replay.JournalFault.TheVariants as fault
 use Rattle.rvm_journal.specs.Headers.{first_header, header_at, header_in_line}
 use Rattle.rvm_journal.specs.Noting.{bytes_noted, came_noted, command_in, end_noted, events_of, frame_noted, noted_by, noted_of, run_if, run_of, turns_noted}
-use Rattle.rvm_journal.specs.Replaying.{AreFewer, HasHarts, HasMore, IsFull, IsJournalFault, IsLineFault, IsReplayedTo, IsRoomFault, IsSpent, IsWanted, LacksHeader, LacksRoom, Records, events_in, first_of, left_of, noted_at, room_of}
-use Rattle.rvm_journal.specs.Told.{Told, at_header, digest_behind, header_told, mark, no_digest, text_in, told_by, told_in, told_of}
+use Rattle.rvm_journal.specs.Replaying.{AreFewer, HasHarts, HasMore, IsJournalFault, IsLineFault, IsReplayedTo, IsRoomFault, IsSpent, IsWanted, LacksHeader, LacksRoom, Records, events_in, first_of, left_of, noted_at, room_of}
+use Rattle.rvm_journal.specs.Told.{Told, at_header, digest_after, digest_behind, header_told, mark, no_digest, text_in, told_by, told_in, told_of}
 use Rattle.rvm_journal.proofs.Adding.{behind_header, one_told}
 use Rattle.rvm_journal.proofs.Runs.{how_many, joined, of_turn}
 
@@ -156,6 +158,11 @@ added old xs m new e = record {
 pub of_entry : (old new : Recording) (x : PlainEntry) (m : ℕ) → new ≡ with_entries old (x ∷ []) m → Records old (x.event ∷ []) new
 of_entry old new x m e = added old (x ∷ []) m new e
 
+-- what holds of a fault that is handed on
+pub handed_on : {A E : Type 0} (P : E → Type 0) (x : E) (r : Result A E) → IsErrAnd r (λ e. e ≡ x) → P x → IfErr r P
+handed_on P x (Ok a) none has = absurd none
+handed_on P x (Err e) same has = subst P (sym same) has
+
 -- slices
 steps_of_slice : (xs : List PlainEntry) (turn harts : ℕ)
     → ((k : ℕ) (x : PlainEntry) → slice_get xs k ≡ Some x → x.event ≡ step_of (turn + k) harts)
@@ -240,13 +247,13 @@ all_turned first harts count left turn a b so none =
 
 -- no room for the turns that are left
 pub none_left : (why : RecordError) (first harts count left turn : ℕ) (a b : Recording) → Turned first harts count left turn a b
-    → 1 ≤ left → IsFull why b → LacksRoom why a (length (steps_from first harts count))
-none_left record_error.OutOfMemory first harts count left turn a b so some full = tt
-none_left (record_error.RecorderFull c) first harts count left turn a b so some full =
+    → 1 ≤ left → LacksRoom why b 1 → LacksRoom why a (length (steps_from first harts count))
+none_left record_error.OutOfMemory first harts count left turn a b so some room = tt
+none_left (record_error.RecorderFull c) first harts count left turn a b so some room =
     let all = so.all in
     let same = so.recorded.capacity in
     let made = longer a b (steps_from first harts so.taken) so.recorded in
-    omega (arith, all, some, full, same, made, how_many first harts so.taken, how_many first harts count)
+    omega (arith, all, some, room, same, made, how_many first harts so.taken, how_many first harts count)
 
 -- what is wanted of no event, and of one
 pub first_none : (most : Option ℕ) → [] ≡ first_of most []
@@ -267,7 +274,7 @@ left_none (Some n) = ap (λ k. Some k) (omega arith)
 take_both : (n : ℕ) (es fs : List HostEvent) → take n (es ++ fs) ≡ take n es ++ take (n - length es) fs
 take_both zero [] fs = refl
 take_both zero (e ∷ es) fs = let none : 0 - length (e ∷ es) ≡ 0 = omega arith in sym (ap (λ k. take k fs) none)
-take_both (suc n) [] fs = let all : suc n ≡ suc n - length [] = omega arith in ap (λ k. take k fs) all
+take_both (suc n) [] fs = let all : suc n ≡ suc n - 0 = omega arith in ap (λ k. take k fs) all
 take_both (suc n) (e ∷ es) fs =
     let down : n - length es ≡ suc n - length (e ∷ es) = omega arith in
     ap (λ l. e ∷ l) (take_both n es fs) ∙ ap (λ k. e ∷ (take n es ++ take k fs)) down
@@ -285,6 +292,9 @@ left_both (Some n) es fs =
 still_few : (most : Option ℕ) (es : List HostEvent) → IsWanted (left_of most es) → AreFewer most es
 still_few None es wanted = tt
 still_few (Some n) es wanted = omega (arith, wanted)
+
+no_some : (left : Option ℕ) (P : Type 0) → left ≡ None → left ≡ Some 0 → P
+no_some left P none some = cc
 
 enough_told : (m : ℕ) (left : Option ℕ) (rest : List (List ℕ)) (es : List HostEvent) → left ≡ left_of (Some m) es
     → (rest ≡ []) ⊎ (left ≡ Some 0) → (rest ≡ []) ⊎ (m ≤ length es)
@@ -443,7 +453,7 @@ module _ (n h : ℕ) where
     ap (told_of n h) (so.lines_are ∙ ap (λ l. so.before ++ l) none ∙ append-nil so.before) ∙ so.told,
     so.recorded,
   )
-  all_done None left bytes rest digest number a b so (inr spent) = let no : None ≡ Some 0 = sym so.left_is ∙ spent in cc
+  all_done None left bytes rest digest number a b so (inr spent) = no_some left (IsReplayedTo None n h bytes a b) so.left_is spent
   all_done (Some m) left bytes rest digest number a b so end = (
     take m so.events,
     record {
@@ -457,6 +467,11 @@ module _ (n h : ℕ) where
     },
     so.recorded,
   )
+
+-- the digest of a line, by its text
+pub own_digest : (digest after text line : List ℕ) → after ≡ digest_after digest (text ++ codes "\n") → text ≡ text_in line
+    → after ≡ digest_behind digest line
+own_digest digest after text line is text_is = is ∙ ap (λ t. digest_after digest (t ++ codes "\n")) text_is
 
 -- the first line of a journal, which shows its digest, or does not
 pub header_shown : (line digest : List ℕ) (shown : Bool) → digest ≡ digest_behind no_digest line
