@@ -14,6 +14,7 @@ pub mod Spellings
 pub mod Commands
 pub mod Merges
 pub mod Taken
+pub mod Behind
 pub mod Parts
 pub mod Lists
 pub mod Passages

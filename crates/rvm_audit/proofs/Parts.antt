@@ -16,11 +16,9 @@ use Rattle.rvm_audit.specs.Merged.{Merged}
 use Rattle.rvm_audit.specs.Merging.{AreTaken, AreWaiting, IsWaiting, Places, Takes, places_of}
 use Rattle.rvm_audit.specs.Parts.{AllWait, AreOf, IsAt, Stands, entries_in, place_at, taken}
 use Rattle.rvm_audit.specs.Rule.{IsEnd}
+use Rattle.rvm_audit.proofs.Behind.{OnePart, as_long, at_each, at_place, behind, entries_left, entries_within, items_left, other_place, start, taken_is, there}
 use Rattle.rvm_audit.proofs.Merges.{ended, nothing}
-use Rattle.rvm_audit.proofs.Taken.{LowerWait, fits, item_taken, left_behind, one_frame, same_places, still, waits_at, waits_still}
-
-abbrev pub start : Place
-start = record { items = 0; entries = 0 }
+use Rattle.rvm_audit.proofs.Taken.{LowerWait, item_taken, one_frame, same_places, still, waits_at, waits_still}
 
 -- each part that is there can be looked at
 pub part_at : {X : Type 0} (xs : List X) (x : ℕ) → x < length xs → (a : X) × (slice_get xs x ≡ Some a)
@@ -85,8 +83,11 @@ turn parts places old host part place stands lower lt part_is place_is = record 
 
 module _ (parts : List Part) (places : List Place) (old new : Merge) (host : ℕ) (part : Part) (place : Place)
     (turn : Turn parts places old host part place) where
-  at_place : IsAt part place
-  at_place = subst (λ (k : Place). IsAt part k) (sym turn.place_is) (turn.stands.each host part turn.here)
+  one : OnePart parts places host part place
+  one = record { long = turn.stands.long; each = turn.stands.each; here = turn.here; place_is = turn.place_is }
+
+  is_at : IsAt part place
+  is_at = at_place parts places host part place one
 
   abbrev left : List (List PlainEntry)
   left = drop place.items part.items.now
@@ -97,9 +98,6 @@ module _ (parts : List Part) (places : List Place) (old new : Merge) (host : ℕ
   abbrev Took : ℕ → Type 0
   Took n = AreTaken part.version (length parts) host left n old new
 
-  there : host < length parts
-  there = slice_get_within parts host part turn.here
-
   one_waits : AreStill → AllWait parts places (places_of old.places) (host + 1)
   one_waits are = λ x other lt at. elim (cases_lt x host) [
     | inl below ↦ turn.lower x other below at
@@ -109,62 +107,24 @@ module _ (parts : List Part) (places : List Place) (old new : Merge) (host : ℕ
         subst (λ y. IsWaiting other.version (length parts) y (entries_in other) (taken places y) (places_of old.places)) same
         (subst (λ (q : Part). IsWaiting q.version (length parts) host (entries_in q) (taken places host) (places_of old.places)) part_is
         (subst (λ (k : Place). IsWaiting part.version (length parts) host (entries_in part) k.entries (places_of old.places)) turn.place_is
-        (waits_at part.version (length parts) host old new (entries_in part) place.entries left at_place.left are))))
+        (waits_at part.version (length parts) host old new (entries_in part) place.entries left is_at.left are))))
   ]
 
   -- its next item was taken
   module _ (n : ℕ) (t : Took n) where
-    abbrev next : Place
-    next = record { items = place.items + 1; entries = place.entries + n }
-
     abbrev after : List Place
-    after = set places host next
-
-    own : place_at after host ≡ next
-    own = get_or-set_same places host next start (let l = turn.stands.long in let h = there in omega (arith, l, h))
-
-    other_place : (x : ℕ) → x ≢ host → place_at after x ≡ place_at places x
-    other_place x ne = get_or-set_other places host x next start ne
-
-    moved : (x : ℕ) → put (taken places) host (place.entries + n) x ≡ taken after x
-    moved x = elim (cases_eq x host) [
-      | inl same ↦
-          ap (λ (b : Bool). if b then place.entries + n else taken places x) (eq-eqb x host same)
-          ∙ sym (ap (taken after) same ∙ ap (λ (k : Place). k.entries) own)
-      | inr ne ↦
-          ap (λ (b : Bool). if b then place.entries + n else taken places x) (ne_eqb x host ne)
-          ∙ sym (ap (λ (k : Place). k.entries) (other_place x ne))
-    ]
-
-    entries_within : place.entries + n ≤ length (entries_in part)
-    entries_within =
-        fits part.version (length parts) host old new (entries_in part) place.entries n left at_place.left t at_place.within
-
-    at_next : IsAt part next
-    at_next = record {
-      within = entries_within;
-      left = left_behind part.version (length parts) host old new (entries_in part) place.entries n left
-          (drop (place.items + 1) part.items.now) at_place.left t (sym (drop_drop part.items.now place.items 1));
-    }
-
-    at_each : (x : ℕ) (other : Part) → slice_get parts x ≡ Some other → IsAt other (place_at after x)
-    at_each x other is = elim (cases_eq x host) [
-      | inl same ↦
-          (let part_is : part ≡ other = same_Some part other (sym turn.here ∙ ap (slice_get parts) (sym same) ∙ is) in
-          subst (λ (k : Place). IsAt other k) (sym (ap (place_at after) same ∙ own))
-          (subst (λ (q : Part). IsAt q next) part_is at_next))
-      | inr ne ↦ subst (λ (k : Place). IsAt other k) (sym (other_place x ne)) (turn.stands.each x other is)
-    ]
+    after = behind places host place n
 
     merged : (j : Journals) → AreOf j parts → Merged j (taken after) new.order (places_of new.places) new.made
     merged j are =
         let is_of = are.each host part turn.here in
         let count_is = are.count_is in
-        let h = there in
+        let h = there parts places host part place one in
         let lt : host < j.openings.count = omega (arith, count_is, h) in
         let at : taken places host ≡ place.entries = ap (λ (k : Place). k.entries) (sym turn.place_is) in
         let split : drop (taken places host) (j.entries host) ≡ entries_at t.item ++ all_of t.rest =
-        (λ i. drop (at i) (sym is_of.entries_are i)) ∙ sym at_place.left ∙ ap all_of t.split
+        (λ i. drop (at i) (sym is_of.entries_are i))
+        ∙ entries_left parts places host part place one n (entries_at t.item) t.rest t.split t.count_is
         in
         let takes : Takes (j.openings.host host).version j.openings.count host t.item old new =
         subst (λ v. Takes v j.openings.count host t.item old new) is_of.version_is
@@ -173,20 +133,16 @@ module _ (parts : List Part) (places : List Place) (old new : Merge) (host : ℕ
         let lower : LowerWait j host lt is_of.replay (taken places) (places_of old.places) =
         λ y y_lt. waits_in j parts places (places_of old.places) host are turn.lower y y_lt (omega (arith, y_lt, h))
         in
-        let one : Merged j (put (taken places) host (taken places host + length (entries_at t.item))) new.order (places_of new.places) new.made =
-        item_taken j host lt is_of.replay (taken places) old new (turn.stands.merged j are) lower t.item (all_of t.rest) split takes
-        in
-        let size : taken places host + length (entries_at t.item) ≡ place.entries + n =
-        (let c = t.count_is in omega (arith, c, at))
-        in
         subst (λ (v : ℕ → ℕ). Merged j v new.order (places_of new.places) new.made)
-        (λ i x. (ap (λ k. put (taken places) host k x) size ∙ moved x) i) one
+        (taken_is parts places host part place one n (entries_at t.item) t.rest t.split t.count_is)
+        (item_taken j host lt is_of.replay (taken places) old new (turn.stands.merged j are) lower t.item (all_of t.rest) split takes)
 
     -- if it made no frame, the hosts below go on waiting
     silent : new.made ≡ old.made → AllWait parts after (places_of new.places) host
     silent is = λ x other lt at.
         subst (λ (k : Place). IsWaiting other.version (length parts) x (entries_in other) k.entries (places_of new.places))
-        (sym (other_place x (λ same. omega (arith, same, lt))))
+        (sym (other_place parts places host part place one n (entries_at t.item) t.rest t.split t.count_is x
+        (λ same. omega (arith, same, lt))))
         (waits_still other.version (length parts) x (entries_in other) (taken places x) (places_of old.places) (places_of new.places)
         (same_places part.version (length parts) host old new t.item t.takes is) (turn.lower x other lt at))
 
@@ -211,15 +167,15 @@ module _ (parts : List Part) (places : List Place) (old new : Merge) (host : ℕ
       took = MatchOption-at_some AreStill Took n is came
 
       pub items_fit : place.items < length part.items.now
-      items_fit = next_within part.items.now place.items (entries_at took.item) took.rest took.split
+      items_fit = items_left parts places host part place one n (entries_at took.item) took.rest took.split took.count_is
 
       pub entries_fit : place.entries + n ≤ length (entries_in part)
-      entries_fit = entries_within n took
+      entries_fit = entries_within parts places host part place one n (entries_at took.item) took.rest took.split took.count_is
 
       pub goes_on : Stands parts (after n took) new
       goes_on = record {
-        long = length-set places host (next n took) ∙ turn.stands.long;
-        each = at_each n took;
+        long = as_long parts places host part place one n (entries_at took.item) took.rest took.split took.count_is;
+        each = at_each parts places host part place one n (entries_at took.item) took.rest took.split took.count_is;
         merged = merged n took;
       }
 

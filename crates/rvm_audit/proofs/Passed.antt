@@ -25,8 +25,9 @@ use Rattle.rvm_audit.specs.declared.known.Passed.{Passed as Row}
 use Rattle.rvm_audit.specs.declared.part.Part.{Part}
 use Rattle.rvm_audit.specs.declared.part.Place.{Place}
 use Rattle.rvm_audit.specs.Parts.{AreOf, IsAt, entries_in, place_at, taken}
+use Rattle.rvm_audit.proofs.Behind.{OnePart, as_long, at_each, at_place, behind, entries_left, entries_within, items_left, other_place, start, taken_is, there}
 use Rattle.rvm_audit.proofs.Commands.{AreCommands, rounds_are, steps_are}
-use Rattle.rvm_audit.proofs.Parts.{nothing_at, part_at, start}
+use Rattle.rvm_audit.proofs.Parts.{nothing_at, part_at}
 use Rattle.rvm_audit.proofs.Passages.{nothing_passed, pass_one, passed, spend}
 use Rattle.rvm_audit.proofs.Taken.{put_here, put_none, put_twice}
 
@@ -182,11 +183,11 @@ next_item_is part place entries item here look = record {
 
 module _ (parts : List Part) (cuts : List Bool) (places : List Place) (old new : Known) (host : ℕ) (part : Part) (place : Place)
     (turn : PassTurn parts cuts places old host part place) where
-  at_place : IsAt part place
-  at_place = subst (λ (k : Place). IsAt part k) (sym turn.place_is) (turn.passing.each host part turn.here)
+  one : OnePart parts places host part place
+  one = record { long = turn.passing.long; each = turn.passing.each; here = turn.here; place_is = turn.place_is }
 
-  there : host < length parts
-  there = slice_get_within parts host part turn.here
+  is_at : IsAt part place
+  is_at = at_place parts places host part place one
 
   abbrev Blocked : Known → Part → ℕ → ℕ → Type 0
   Blocked k q y i =
@@ -211,7 +212,7 @@ module _ (parts : List Part) (cuts : List Bool) (places : List Place) (old new :
     no_entries : length (entries_in part) ≤ place.entries
     no_entries =
         let left : length (drop place.entries (entries_in part)) ≡ 0 =
-        ap (λ (xs : List PlainEntry). length xs) (sym at_place.left ∙ ap all_of (nothing_left part.items.now place.items none))
+        ap (λ (xs : List PlainEntry). length xs) (sym is_at.left ∙ ap all_of (nothing_left part.items.now place.items none))
         in
         omega (arith, length-drop place.entries (entries_in part), left)
       where
@@ -237,7 +238,7 @@ module _ (parts : List Part) (cuts : List Bool) (places : List Place) (old new :
       passage = λ j are.
           (let is_of = are.each host part turn.here in
           let m = turn.passing.passage j are in
-          let within = m.within host (let c = are.count_is in let t = there in omega (arith, c, t)) in
+          let within = m.within host (let c = are.count_is in let t = there parts places host part place one in omega (arith, c, t)) in
           let entries = ap (λ (xs : List PlainEntry). length xs) is_of.entries_are in
           let at : taken places host ≡ place.entries = ap (λ (k : Place). k.entries) (sym turn.place_is) in
           let all = no_entries in
@@ -258,8 +259,8 @@ module _ (parts : List Part) (cuts : List Bool) (places : List Place) (old new :
   -- IT HAS A NEXT ITEM
 
   module _ (item : ItemRef) (is_next : IsNextItem part place item) where
-    split : drop place.entries (entries_in part) ≡ entries_at item ++ all_of is_next.rest
-    split = sym at_place.left ∙ ap all_of is_next.split
+    left : drop place.entries (entries_in part) ≡ entries_at item ++ all_of is_next.rest
+    left = entries_left parts places host part place one (length (entries_at item)) (entries_at item) is_next.rest is_next.split refl
 
     module _ (blocks : ItemBlocks part.version (length parts) host item old new) where
       same : new ≡ old
@@ -273,103 +274,56 @@ module _ (parts : List Part) (cuts : List Bool) (places : List Place) (old new :
           subst (λ (k : Known). AllBlocked parts cuts places k (host + 1)) (sym same)
           (one_blocked old turn.lower
           (blocked_at part.version (length parts) host old new (marked cuts host) (entries_in part) place.entries item
-          (all_of is_next.rest) split blocks))
+          (all_of is_next.rest) left blocks))
 
     module _ (row : Row) (t : ItemPasses part.version (length parts) host item row old new) where
       size : row.entries ≡ length (entries_at item)
       size = as_many part.version (length parts) host old new item row t
 
-      items_left : place.items < length part.items.now
-      items_left =
-          let l = ap (λ (xs : List (List PlainEntry)). length xs) is_next.split in
-          omega (arith, l, length-drop place.items part.items.now)
+      fits : place.items < length part.items.now
+      fits = items_left parts places host part place one row.entries (entries_at item) is_next.rest is_next.split size
 
-      entries_within : place.entries + row.entries ≤ length (entries_in part)
-      entries_within =
-          let w = at_place.within in
-          let l = ap (λ (xs : List PlainEntry). length xs) split in
-          let long = length-append (entries_at item) (all_of is_next.rest) in
-          omega (arith, w, l, long, length-drop place.entries (entries_in part), size)
+      within : place.entries + row.entries ≤ length (entries_in part)
+      within = entries_within parts places host part place one row.entries (entries_at item) is_next.rest is_next.split size
 
-      abbrev next : Place
-      next = record { items = place.items + 1; entries = place.entries + row.entries }
-
-      abbrev pub behind : List Place
-      behind = set places host next
-
-      own : place_at behind host ≡ next
-      own = get_or-set_same places host next start (let l = turn.passing.long in let h = there in omega (arith, l, h))
-
-      other_place : (x : ℕ) → x ≢ host → place_at behind x ≡ place_at places x
-      other_place x ne = get_or-set_other places host x next start ne
-
-      moved : (x : ℕ) → put (taken places) host (place.entries + row.entries) x ≡ taken behind x
-      moved x = elim (cases_eq x host) [
-        | inl same ↦
-            ap (λ (b : Bool). if b then place.entries + row.entries else taken places x) (eq-eqb x host same)
-            ∙ sym (ap (taken behind) same ∙ ap (λ (k : Place). k.entries) own)
-        | inr ne ↦
-            ap (λ (b : Bool). if b then place.entries + row.entries else taken places x) (ne_eqb x host ne)
-            ∙ sym (ap (λ (k : Place). k.entries) (other_place x ne))
-      ]
-
-      at_next : IsAt part next
-      at_next = record {
-        within = entries_within;
-        left =
-            ap all_of (sym (drop_drop part.items.now place.items 1) ∙ ap (drop 1) is_next.split)
-            ∙ sym (drop_all_of (entries_at item) (all_of is_next.rest)) ∙ ap (drop (length (entries_at item))) (sym split)
-            ∙ drop_drop (entries_in part) place.entries (length (entries_at item))
-            ∙ ap (λ k. drop (place.entries + k) (entries_in part)) (sym size);
-      }
-
-      at_each : (x : ℕ) (other : Part) → slice_get parts x ≡ Some other → IsAt other (place_at behind x)
-      at_each x other is = elim (cases_eq x host) [
-        | inl same ↦
-            (let part_is : part ≡ other = same_Some part other (sym turn.here ∙ ap (slice_get parts) (sym same) ∙ is) in
-            subst (λ (k : Place). IsAt other k) (sym (ap (place_at behind) same ∙ own))
-            (subst (λ (q : Part). IsAt q next) part_is at_next))
-        | inr ne ↦ subst (λ (k : Place). IsAt other k) (sym (other_place x ne)) (turn.passing.each x other is)
-      ]
+      abbrev pub after : List Place
+      after = behind places host place row.entries
 
       passage : (j : Journals) → AreOf j parts
-          → IsPassage j (marked cuts) (taken behind) (places_of new.made) (marked new.spent.items)
+          → IsPassage j (marked cuts) (taken after) (places_of new.made) (marked new.spent.items)
       passage j are =
           let is_of = are.each host part turn.here in
           let count_is = are.count_is in
-          let h = there in
+          let h = there parts places host part place one in
           let lt : host < j.openings.count = omega (arith, count_is, h) in
           let at : taken places host ≡ place.entries = ap (λ (k : Place). k.entries) (sym turn.place_is) in
-          let own_split : drop (taken places host) (j.entries host) ≡ entries_at item ++ all_of is_next.rest =
-          (λ i. drop (at i) (sym is_of.entries_are i)) ∙ split
+          let own_left : drop (taken places host) (j.entries host) ≡ entries_at item ++ all_of is_next.rest =
+          (λ i. drop (at i) (sym is_of.entries_are i)) ∙ left
           in
           let passes : ItemPasses (j.openings.host host).version j.openings.count host item row old new =
           subst (λ v. ItemPasses v j.openings.count host item row old new) is_of.version_is
           (subst (λ c. ItemPasses part.version c host item row old new) (sym count_is) t)
           in
-          let one =
-          item_passed j (marked cuts) host lt (taken places) old new item row (all_of is_next.rest)
-          (turn.passing.passage j are) own_split passes
-          in
-          let s = size in
-          let size_is : taken places host + length (entries_at item) ≡ place.entries + row.entries = omega (arith, s, at) in
           subst (λ (v : ℕ → ℕ). IsPassage j (marked cuts) v (places_of new.made) (marked new.spent.items))
-          (λ i x. (ap (λ k. put (taken places) host k x) size_is ∙ moved x) i) one
+          (taken_is parts places host part place one row.entries (entries_at item) is_next.rest is_next.split size)
+          (item_passed j (marked cuts) host lt (taken places) old new item row (all_of is_next.rest)
+          (turn.passing.passage j are) own_left passes)
 
-      goes_on_passing : IsPassing parts cuts behind new
+      goes_on_passing : IsPassing parts cuts after new
       goes_on_passing = record {
-        long = length-set places host next ∙ turn.passing.long;
+        long = as_long parts places host part place one row.entries (entries_at item) is_next.rest is_next.split size;
         spent =
             ap (λ s. length s.items) (same_spent part.version (length parts) host old new item row t) ∙ turn.passing.spent;
-        each = at_each;
+        each = at_each parts places host part place one row.entries (entries_at item) is_next.rest is_next.split size;
         passage = passage;
       }
 
       -- if it made no frame, the hosts below go on being blocked
-      silent : row.is_silent ≡ true → AllBlocked parts cuts behind new host
+      silent : row.is_silent ≡ true → AllBlocked parts cuts after new host
       silent is = λ x other lt at.
           subst (λ (k : Place). Blocked new other x k.entries)
-          (sym (other_place x (λ same. omega (arith, same, lt))))
+          (sym (other_place parts places host part place one row.entries (entries_at item) is_next.rest is_next.split size x
+          (λ same. omega (arith, same, lt))))
           (subst (λ s. IsBlocked other.version (length parts) x (places_of new.made) (marked s.items) (marked cuts x)
           (entries_in other) (taken places x)) (sym (same_spent part.version (length parts) host old new item row t))
           (subst (λ (p : Places). IsBlocked other.version (length parts) x p (marked old.spent.items) (marked cuts x)
@@ -379,8 +333,8 @@ module _ (parts : List Part) (cuts : List Bool) (places : List Place) (old new :
 
       -- after a frame was made, the first host has the turn
       lower_blocked : (b : Bool) (k : ℕ) → b ≡ row.is_silent → k ≡ (if b then host else 0)
-          → AllBlocked parts cuts behind new k
-      lower_blocked true k silent_is k_is = subst (AllBlocked parts cuts behind new) (sym k_is) (silent (sym silent_is))
+          → AllBlocked parts cuts after new k
+      lower_blocked true k silent_is k_is = subst (AllBlocked parts cuts after new) (sym k_is) (silent (sym silent_is))
       lower_blocked false k silent_is k_is = λ x other lt at. absurd (omega (arith, lt, k_is))
 
   -- what the turn leaves
@@ -405,16 +359,16 @@ module _ (parts : List Part) (cuts : List Bool) (places : List Place) (old new :
           (λ r. ItemPasses part.version (length parts) host item r old new) row is came
 
       pub some_items_left : place.items < length part.items.now
-      some_items_left = items_left item is_next row passes
+      some_items_left = fits item is_next row passes
 
       pub some_entries_within : place.entries + row.entries ≤ length (entries_in part)
-      some_entries_within = entries_within item is_next row passes
+      some_entries_within = within item is_next row passes
 
-      pub some_passing : IsPassing parts cuts (behind item is_next row passes) new
+      pub some_passing : IsPassing parts cuts (after item is_next row passes) new
       some_passing = goes_on_passing item is_next row passes
 
       pub some_blocked : (k : ℕ) → k ≡ (if row.is_silent then host else 0)
-          → AllBlocked parts cuts (behind item is_next row passes) new k
+          → AllBlocked parts cuts (after item is_next row passes) new k
       some_blocked k k_is = lower_blocked item is_next row passes row.is_silent k refl k_is
 
 -- THE END

@@ -116,26 +116,6 @@ module _ (version count x : ℕ) (old new : Merge) where
   same_places (Steps s) t is key = ap (λ p. places_of p key) t.places
   same_places (Rounds r) t is key = ap (λ p. places_of p key) t.places
 
-  -- what is left of a journal after an item
-  pub left_behind : (entries : List PlainEntry) (i n : ℕ) (items more : List (List PlainEntry)) → all_of items ≡ drop i entries
-      → AreTaken version count x items n old new → more ≡ drop 1 items → all_of more ≡ drop (i + n) entries
-  left_behind entries i n items more left t is =
-      let xs = entries_at t.item in
-      let rest : more ≡ t.rest = is ∙ ap (drop 1) t.split in
-      ap all_of rest ∙ sym (drop_all_of xs (all_of t.rest)) ∙ ap (drop (length xs)) (sym (ap all_of t.split) ∙ left)
-      ∙ drop_drop entries i (length xs) ∙ ap (λ k. drop (i + k) entries) (sym t.count_is)
-
-  pub fits : (entries : List PlainEntry) (i n : ℕ) (items : List (List PlainEntry)) → all_of items ≡ drop i entries
-      → AreTaken version count x items n old new → i ≤ length entries → i + n ≤ length entries
-  fits entries i n items left t le =
-      let long = length-append (entries_at t.item) (all_of t.rest) in
-      let same : length (entries_at t.item ++ all_of t.rest) ≡ length (drop i entries) =
-      ap (λ (xs : List PlainEntry). length xs) (sym (ap all_of t.split) ∙ left)
-      in
-      let d = length-drop i entries in
-      let c = t.count_is in
-      omega (arith, long, same, d, c, le)
-
 -- a host that waits goes on waiting if no frame was made
 pub waits_still : (version count x : ℕ) (entries : List PlainEntry) (k : ℕ) (p q : Places) → ((key : List ℕ) → q key ≡ p key)
     → IsWaiting version count x entries k p → IsWaiting version count x entries k q
