@@ -43,7 +43,7 @@ faulty_lines =
     codes "8000000 T main" ∷ codes "080000000 T main" ∷ codes "8000000g T main" ∷ codes "80000000 main"
     ∷ codes "80000000 TT main" ∷ codes "80000000 T main main" ∷ codes "main" ∷ []
 
-refused_lines : List (List ℕ) → List (Option ℕ)
+abbrev refused_lines : List (List ℕ) → List (Option ℕ)
 refused_lines [] = []
 refused_lines (line ∷ lines) = refused_line line ∷ refused_lines lines
 

@@ -196,10 +196,12 @@ words_between pages from end n a size =
         let both = and_parts (is_word pages a) (nat_le from a && is_before end a) is in
         let word = and_parts (a % 4 == 0) (nat_le ram_base a && nat_lt a (ram_base + 4096 * pages)) both.0 in
         let inside = and_parts (nat_le ram_base a) (nat_lt a (ram_base + 4096 * pages)) word.1 in
-        let range = and_parts (nat_le from a) (is_before end a) both.1 in
-        (
-          eqb-true (a % 4) 0 word.0, leb-true ram_base a inside.0, ltb-true a (ram_base + 4096 * pages) inside.1,
-          leb-true from a range.0, range.1,
+        let range = and_parts (nat_le from a) (is_before end a) both.1 in (
+          eqb-true (a % 4) 0 word.0,
+          leb-true ram_base a inside.0,
+          ltb-true a (ram_base + 4096 * pages) inside.1,
+          leb-true from a range.0,
+          range.1,
         )
 
     word_from : (pages from : ℕ) (end : Option ℕ) (a : ℕ) → a % 4 ≡ 0 → ram_base ≤ a → a < ram_base + 4096 * pages → from ≤ a

@@ -196,7 +196,9 @@ fn run_checked<M: PagedMemory + Drop, O: Write, T: Write, R: Write>(
         × (R.contents files.new.report ≡ R.contents files.old.report)) }
 {
     let mut guest = load_guest::<M>(alloc, &arguments.guest, image)?;
-    run_loaded(alloc, &mut guest, arguments, image, input, symbols, output, files)
+    run_loaded(
+        alloc, &mut guest, arguments, image, input, symbols, output, files,
+    )
 }
 
 /// Runs a guest that was loaded. Returns how the run ended, or why it was refused.

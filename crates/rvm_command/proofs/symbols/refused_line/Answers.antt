@@ -14,8 +14,8 @@ pub loop-rest-preserved : goal.loop-rest-preserved
 loop-rest-preserved c = (
   omega arith,
   sym
-  (refused_later (c.loop-rest.number + 1) c.loop-rest.lowest c.in-Some.next c.split_line.ensures.lines c.in-Some.ensures)
-  ∙ c.loop-rest.invariant.1,
+      (refused_later (c.loop-rest.number + 1) c.loop-rest.lowest c.in-Some.next c.split_line.ensures.lines c.in-Some.ensures)
+      ∙ c.loop-rest.invariant.1,
 )
 
 pub returns : goal.returns
