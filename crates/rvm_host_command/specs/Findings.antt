@@ -1,5 +1,5 @@
 -- What an audit of journals in files found, and the status that says so.
-use Rattle.std.specs.Prelude.{◌≡◌, ◌⊎◌, ⊤, ⊥, ℕ, zero, suc, ◌&&◌, not, Bool, false, List, [], ◌∷◌, ◌++◌, length, map, Option, None, Some}
+use Rattle.std.specs.Prelude.{◌≡◌, ◌⊎◌, ⊤, ℕ, zero, suc, ◌&&◌, not, Bool, false, List, [], ◌∷◌, ◌++◌, length, map, Option, None, Some}
 use Rattle.std.specs.List.{list_any}
 use Rattle.rvm_audit.specs.Cuts.{AreContradicted, AreExplained}
 use Rattle.rvm_audit.specs.Orders.{IsDeadEnd, IsOrder, cut}

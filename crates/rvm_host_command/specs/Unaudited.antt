@@ -1,5 +1,5 @@
 -- Why journals of the hosts of a world are not audited.
-use Rattle.std.specs.Prelude.{◌≡◌, ◌≢◌, ◌⊎◌, ⊤, ⊥, ℕ, ◌+◌, ◌<◌, min, true, List, length, slice_get, Some, None}
+use Rattle.std.specs.Prelude.{◌≡◌, ◌≢◌, ◌⊎◌, ⊤, ℕ, ◌+◌, ◌<◌, min, true, List, length, slice_get, Some, None}
 use Rattle.rvm_journal.specs.declared.header.Header.{Header}
 use Rattle.rvm_host_command.specs.Audited.{IsOnlyOne, header_number, is_wanted}
 use Rattle.rvm_host_command.specs.FileFaults.{IsFileFault}
