@@ -18,6 +18,7 @@ unfound_words unfound.Line = codes "this is no line of a text of its kind (docs/
 unfound_words unfound.Symbols = codes "the symbols: this is no line that nm -n prints, or its address is below the one before it"
 unfound_words unfound.Journals = codes "no order: give the journals of all hosts, each to its last line"
 unfound_words unfound.InputLine = codes "standard input: this is no line of a script (docs/SCRIPTS.md)"
+unfound_words unfound.SessionLine = codes "the session: this is no line of one (docs/SCRIPTS.md)"
 unfound_words unfound.LongInput = codes "standard input: this has more than 67108864 bytes"
 unfound_words unfound.RunWrite = codes "nothing wrong was found with the files: a write to standard output, or to a file that the run writes, may have failed"
 unfound_words unfound.AsmWrite = codes "nothing wrong was found with the files: a write to OUT may have failed"

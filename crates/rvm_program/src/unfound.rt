@@ -22,6 +22,8 @@ pub(crate) enum Unfound {
     Journals,
     /// A line of standard input.
     InputLine,
+    /// A line of the session of a replay.
+    SessionLine,
     /// The length of standard input.
     LongInput,
     /// A write of `run`.
@@ -71,6 +73,7 @@ impl Unfound {
                 "the symbols: this is no line that nm -n prints, or its address is below the one before it",
             Unfound::Journals => "no order: give the journals of all hosts, each to its last line",
             Unfound::InputLine => "standard input: this is no line of a script (docs/SCRIPTS.md)",
+            Unfound::SessionLine => "the session: this is no line of one (docs/SCRIPTS.md)",
             Unfound::LongInput => "standard input: this has more than 67108864 bytes",
             Unfound::RunWrite =>
                 "nothing wrong was found with the files: a write to standard output, or to a file that the run writes, may have failed",
@@ -91,6 +94,7 @@ fn unkept(arguments: &Arguments) -> Unfound {
     match arguments {
         Arguments::Debug(_) => Unfound::InputLine,
         Arguments::Run(_) => Unfound::Symbols,
+        Arguments::Replay(_) => Unfound::SessionLine,
         _ => Unfound::Line,
     }
 }
