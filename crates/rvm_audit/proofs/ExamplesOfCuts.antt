@@ -1,5 +1,5 @@
 -- Worked explanations of journals that were cut, and contradictions between them.
-use Rattle.std.proofs.Common.{◌≡◌, ◌∙◌, ℕ, zero, suc, ◌<◌, ◌≤◌, ◌==◌, Bool, true, false, List, [], ◌∷◌, ◌++◌, length, take, None, Some, refl, sym, ap, subst, arith, inl, inr}
+use Rattle.std.proofs.Common.{◌≡◌, ◌∙◌, ℕ, zero, suc, ◌<◌, ◌==◌, Bool, true, false, List, [], ◌∷◌, ◌++◌, length, take, None, Some, refl, sym, ap, subst, arith, inl, inr}
 use Rattle.std.specs.Prelude.{slice_get}
 use Rattle.std.proofs.lemmas.Option.{same_Some}
 use Rattle.rvm_board.specs.Guest.{Guest}
@@ -9,9 +9,9 @@ use Rattle.rvm_recorder.specs.Entries.{PlainEntry}
 use Rattle.rvm_message.specs.declared.event.HostEvent.TheVariants.{Came}
 use Rattle.rvm_message.specs.declared.reply.HostRefusal.TheVariants.{Ignored}
 use Rattle.rvm_message.specs.declared.reply.HostReply.TheVariants.{Refused}
-use Rattle.rvm_audit.specs.Hosts.{HasBytes, HostEntry, entries_at}
+use Rattle.rvm_audit.specs.Hosts.{HostEntry, entries_at}
 use Rattle.rvm_audit.specs.Orders.{IsClosed, IsStuck, Journals, MadeBelow}
-use Rattle.rvm_audit.specs.Cuts.{AllExplained, Completes, Contradicts, IsExplained, IsExplanation}
+use Rattle.rvm_audit.specs.Cuts.{Completes, Contradicts, IsExplained, IsExplanation}
 use Rattle.rvm_audit.proofs.Examples.{entries, go_bytes, its_bytes, journals, sends_go, takes_go, three}
 
 module _ (kept : Guest) where

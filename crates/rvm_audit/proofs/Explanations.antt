@@ -1,16 +1,14 @@
 -- Journals that contradict one another have no explanation.
 use Rattle.std.proofs.Common.{◌≡◌, ◌∙◌, ℕ, zero, suc, ◌+◌, ◌<◌, ◌≤◌, ◌==◌, Bool, true, false, List, [], ◌∷◌, ◌++◌, Option, length, length-append, append-nil, take, drop, Some, None, refl, sym, ap, subst, arith, inl, inr}
-use Rattle.std.specs.Prelude.{slice_get, ◌⊎◌}
+use Rattle.std.specs.Prelude.{slice_get}
 use Rattle.std.proofs.Math.Seq.{take-length}
-use Rattle.std.proofs.lemmas.Bool.{cases_Bool, cases_lt, eqb-true, ltb-true}
+use Rattle.std.proofs.lemmas.Bool.{cases_lt, eqb-true, ltb-true}
 use Rattle.std.proofs.lemmas.Option.{same_Some, slice_get_within, some_pair_parts}
-use Rattle.rvm_frame.specs.declared.frame.Frame.{Frame}
 use Rattle.rvm_recorder.specs.Entries.{PlainEntry}
-use Rattle.rvm_message.specs.declared.event.HostEvent.{HostEvent}
-use Rattle.rvm_message.specs.declared.event.HostEvent.TheVariants.{Do, Came}
+use Rattle.rvm_message.specs.declared.event.HostEvent.TheVariants.{Came}
 use Rattle.rvm_protocol.specs.Host.{is_there}
 use Rattle.rvm_audit.specs.Hosts.{HasBytes, HostEntry, Made, cons_if, entries_at, made_more}
-use Rattle.rvm_audit.specs.Orders.{CameUnmade, IsStuck, Journals, MadeBelow}
+use Rattle.rvm_audit.specs.Orders.{CameUnmade, IsStuck, Journals}
 use Rattle.rvm_audit.specs.Cuts.{Contradicts, IsContradiction, IsExplained, IsExplanation, all_made}
 use Rattle.rvm_audit.proofs.Gets.{get_end, get_front, take_get}
 use Rattle.rvm_audit.proofs.Steps.{and_first, cons_append, own_entries}
@@ -28,7 +26,8 @@ get_behind (x ∷ xs) ys i s at =
 abbrev pub IsAmong : (y : ℕ) → List HostEntry → List ℕ → Type 0
 IsAmong y ss bytes = (i : ℕ) × (slice_get (all_made ss) i ≡ Some (y, bytes))
 
-among_more : (y : ℕ) (s : HostEntry) (ss : List HostEntry) (bytes : List ℕ) → IsAmong y ss bytes → IsAmong y (s ∷ ss) bytes
+among_more : (y : ℕ) (s : HostEntry) (ss : List HostEntry) (bytes : List ℕ) → IsAmong y ss bytes
+    → IsAmong y (s ∷ ss) bytes
 among_more y s ss bytes m = (
   length (made_more s.0 s.1.frame) + m.0,
   get_behind (made_more s.0 s.1.frame) (all_made ss) m.0 (y, bytes) m.1,
@@ -37,14 +36,16 @@ among_more y s ss bytes m = (
 among_first : (y x : ℕ) (frame : Option (List ℕ)) (rest : List Made) (bytes : List ℕ) → y ≡ x → frame ≡ Some bytes
     → slice_get (made_more x frame ++ rest) 0 ≡ Some (y, bytes)
 among_first y x frame rest bytes same is =
-    subst (λ o. slice_get (made_more x o ++ rest) 0 ≡ Some (y, bytes)) (sym is) (ap (λ (z : ℕ). Some (z, bytes)) (sym same))
+    subst (λ o. slice_get (made_more x o ++ rest) 0 ≡ Some (y, bytes)) (sym is) (ap (λ (z : ℕ). Some (z, bytes))
+        (sym same))
 
 made_next : (y x : ℕ) (m : PlainEntry) (ss : List HostEntry) (n : PlainEntry) (bytes : List ℕ)
     → ((k : ℕ) → slice_get (entries_at y ss) k ≡ Some n → IsAmong y ss bytes) → n.frame ≡ Some bytes
     → (b : Bool) → (b ≡ true → y ≡ x) → (k : ℕ) → slice_get (cons_if b m (entries_at y ss)) k ≡ Some n
     → IsAmong y ((x, m) ∷ ss) bytes
 made_next y x m ss n bytes rest is true same zero at =
-    (0, among_first y x m.frame (all_made ss) bytes (same refl) (ap (λ (e : PlainEntry). e.frame) (same_Some m n at) ∙ is))
+    (0, among_first y x m.frame (all_made ss) bytes (same refl) (ap (λ (e : PlainEntry). e.frame) (same_Some m n at)
+        ∙ is))
 made_next y x m ss n bytes rest is true same (suc k) at = among_more y (x, m) ss bytes (rest k at)
 made_next y x m ss n bytes rest is false same k at = among_more y (x, m) ss bytes (rest k at)
 
@@ -61,7 +62,8 @@ pub record HasMade (y : ℕ) (ss : List HostEntry) (bytes : List ℕ) : Type 0 w
   pub stands : slice_get (entries_at y ss) place ≡ Some entry
   pub made : entry.frame ≡ Some bytes
 
-made_further : (y : ℕ) (s : HostEntry) (ss : List HostEntry) (bytes : List ℕ) → HasMade y ss bytes → HasMade y (s ∷ ss) bytes
+made_further : (y : ℕ) (s : HostEntry) (ss : List HostEntry) (bytes : List ℕ) → HasMade y ss bytes
+    → HasMade y (s ∷ ss) bytes
 made_further y s ss bytes m =
     let found = by (y == s.0) in
     record { place = found.0; entry = m.entry; stands = found.1; made = m.made }
@@ -80,7 +82,8 @@ among_next y x m ss bytes rest (Some new) is zero at =
       place = 0;
       entry = m;
       stands =
-          subst (λ z. slice_get (entries_at z ((x, m) ∷ ss)) 0 ≡ Some m) same.0 (ap (λ xs. slice_get xs 0) (own_entries x m ss));
+          subst (λ z. slice_get (entries_at z ((x, m) ∷ ss)) 0 ≡ Some m) same.0 (ap (λ xs. slice_get xs 0)
+              (own_entries x m ss));
       made = is ∙ ap (λ (b : List ℕ). Some b) same.1;
     }
 among_next y x m ss bytes rest (Some new) is (suc i) at = made_further y (x, m) ss bytes (rest i at)
@@ -96,7 +99,8 @@ among_made y ((x, m) ∷ ss) i bytes at =
 pub entries_append : (y : ℕ) (ss ts : List HostEntry) → entries_at y (ss ++ ts) ≡ entries_at y ss ++ entries_at y ts
 entries_append y [] ts = refl
 entries_append y (s ∷ ss) ts =
-    ap (cons_if (y == s.0) s.1) (entries_append y ss ts) ∙ cons_append (y == s.0) s.1 (entries_at y ss) (entries_at y ts)
+    ap (cons_if (y == s.0) s.1) (entries_append y ss ts)
+        ∙ cons_append (y == s.0) s.1 (entries_at y ss) (entries_at y ts)
 
 take_drop : {X : Type 0} (k : ℕ) (xs : List X) → take k xs ++ drop k xs ≡ xs
 take_drop zero [] = refl
@@ -109,7 +113,8 @@ there_is [] k lt = absurd (omega (arith, lt))
 there_is (x ∷ xs) zero lt = (x, refl)
 there_is (x ∷ xs) (suc k) lt = there_is xs k (omega (arith, lt))
 
-module _ (j : Journals) (is_cut : ℕ → Bool) (places : ℕ → ℕ) (members : ℕ → Bool) (c : Contradicts j is_cut places members)
+module _ (j : Journals) (is_cut : ℕ → Bool) (places : ℕ → ℕ) (members : ℕ
+    → Bool) (c : Contradicts j is_cut places members)
     (ss : List HostEntry) (e : IsExplanation j is_cut ss) where
   abbrev done : ℕ → ℕ → List PlainEntry
   done k y = entries_at y (take k ss)
@@ -128,7 +133,8 @@ module _ (j : Journals) (is_cut : ℕ → Bool) (places : ℕ → ℕ) (members 
 
   -- the next entry of a host that is stuck has no explanation
   no_next : (k x : ℕ) (n : PlainEntry) → AllWithin k → x < j.openings.count → members x ≡ true
-      → slice_get (j.entries x) (places x) ≡ Some n → (u : CameUnmade j places x) → IsExplained j is_cut (take k ss) x n.event → ⊥
+      → slice_get (j.entries x) (places x) ≡ Some n → (u : CameUnmade j places x)
+          → IsExplained j is_cut (take k ss) x n.event → ⊥
   no_next k x n within lt here at u why = by (subst (IsExplained j is_cut (take k ss) x) event why) where
     same : n ≡ u.entry
     same = same_Some n u.entry (sym at ∙ u.stands)
@@ -136,7 +142,8 @@ module _ (j : Journals) (is_cut : ℕ → Bool) (places : ℕ → ℕ) (members 
     event : n.event ≡ Came u.from u.frame
     event = ap (λ (m : PlainEntry). m.event) same ∙ u.came
 
-    is_in : (bytes : List ℕ) → is_there x j.openings.count u.from ≡ true → HasBytes (j.openings.host x).version u.from x u.frame bytes
+    is_in : (bytes : List ℕ) → is_there x j.openings.count u.from ≡ true
+        → HasBytes (j.openings.host x).version u.from x u.frame bytes
         → (u.from < j.openings.count) × (members u.from ≡ true)
     is_in bytes other has = (
       ltb-true u.from j.openings.count (and_first _ _ other),
@@ -172,7 +179,8 @@ module _ (j : Journals) (is_cut : ℕ → Bool) (places : ℕ → ℕ) (members 
 
     by : (b : Bool) → (b ≡ true → y ≡ s.0) → (y == s.0) ≡ b → length (done (suc k) y) ≤ places y
     by false same is =
-        let l = ap (λ (xs : List PlainEntry). length xs) (more ∙ ap (λ b. done k y ++ cons_if b s.1 []) is ∙ append-nil (done k y)) in
+        let l = ap (λ (xs : List PlainEntry). length xs) (more ∙ ap (λ b. done k y ++ cons_if b s.1 []) is
+            ∙ append-nil (done k y)) in
         let w = within y lt here in
         omega (arith, l, w)
     by true same is =
@@ -192,7 +200,8 @@ module _ (j : Journals) (is_cut : ℕ → Bool) (places : ℕ → ℕ) (members 
         ]
       where
         stuck_here : slice_get (j.entries y) (places y) ≡ Some s.1 → IsStuck j places y → ⊥
-        stuck_here here_is (inl ended) = let l = slice_get_within (j.entries y) (places y) s.1 here_is in omega (arith, l, ended)
+        stuck_here here_is (inl ended) = let l = slice_get_within (j.entries y) (places y) s.1 here_is in omega
+            (arith, l, ended)
         stuck_here here_is (inr u) =
             no_next k y s.1 within lt here here_is u
             (subst (λ z. IsExplained j is_cut (take k ss) z s.1.event) (sym (same refl)) (e.all.explained k s at))

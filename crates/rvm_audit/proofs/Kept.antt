@@ -1,16 +1,14 @@
 -- An order of journals that complete others explains those: what is kept of it is their explanation.
-use Rattle.std.proofs.Common.{◌≡◌, ◌∙◌, ℕ, zero, suc, ◌<◌, ◌≤◌, ◌==◌, Bool, true, false, if◌then◌else◌, List, [], ◌∷◌, ◌++◌, Option, length, length-append, append-nil, append_assoc, take, Some, None, refl, sym, ap, subst, arith, inl, inr}
+use Rattle.std.proofs.Common.{◌≡◌, ◌∙◌, ℕ, zero, suc, ◌<◌, ◌==◌, Bool, true, false, if◌then◌else◌, List, [], ◌∷◌, ◌++◌, length, append-nil, append_assoc, take, Some, refl, sym, ap, subst, arith, inl, inr}
 use Rattle.std.specs.Prelude.{slice_get, ◌⊎◌}
-use Rattle.std.proofs.Math.Seq.{take-length}
-use Rattle.std.proofs.lemmas.Bool.{cases_Bool, eq-eqb, eqb-true, ltb-true}
-use Rattle.std.proofs.lemmas.Option.{some_pair_parts}
+use Rattle.std.proofs.lemmas.Bool.{cases_Bool, eqb-true, ltb-true}
 use Rattle.rvm_recorder.specs.Entries.{PlainEntry}
 use Rattle.rvm_message.specs.declared.event.HostEvent.{HostEvent}
 use Rattle.rvm_message.specs.declared.event.HostEvent.TheVariants.{Do, Came}
 use Rattle.rvm_protocol.specs.Pages.{put}
 use Rattle.rvm_core.specs.declared.event.Event.{Event}
 use Rattle.rvm_core.specs.declared.event.Event.TheVariants.{At, Deliver}
-use Rattle.rvm_audit.specs.Hosts.{HostEntry, Hosts, IsEvent, IsRun, Made, Makes, Openings, after, cons_if, entries_at, made_more, opened}
+use Rattle.rvm_audit.specs.Hosts.{HostEntry, Hosts, IsEvent, IsRun, Makes, Openings, after, cons_if, entries_at, made_more, opened}
 use Rattle.rvm_audit.specs.Orders.{IsOrder, Journals}
 use Rattle.rvm_audit.specs.Cuts.{AllExplained, Completes, Contradicts, IsExplained, IsExplanation, all_made}
 use Rattle.rvm_audit.proofs.Gets.{get_end, get_front}
@@ -37,7 +35,8 @@ left_out true i n before xs rest is so =
     ∙ ap (λ k. before ++ take k (n ∷ xs)) (sym (is refl)) ∙ so
 left_out false i n before xs rest is so = so
 
-whole_next : (b : Bool) (i q : ℕ) (n : PlainEntry) (xs : List PlainEntry) → (b ≡ true → i ≡ suc q) → i ≡ length (cons_if b n xs)
+whole_next : (b : Bool) (i q : ℕ) (n : PlainEntry) (xs : List PlainEntry) → (b ≡ true → i ≡ suc q)
+    → i ≡ length (cons_if b n xs)
     → (if b then q else i) ≡ length xs
 whole_next true i q n xs is so = let e = is refl in omega (arith, e, so)
 whole_next false i q n xs is so = so
@@ -56,7 +55,8 @@ module _ (j : Journals) (is_cut : ℕ → Bool) where
     entries : (y : ℕ) → y < j.openings.count → entries_at y kept ++ take (left y) (entries_at y ss) ≡ j.entries y
     whole : (y : ℕ) → y < j.openings.count → is_cut y ≡ false → left y ≡ length (entries_at y ss)
     all : AllExplained j is_cut kept
-    made : (y k : ℕ) (bytes : List ℕ) → y < j.openings.count → slice_get w.made k ≡ Some (y, bytes) → IsKept left kept y bytes
+    made : (y k : ℕ) (bytes : List ℕ) → y < j.openings.count → slice_get w.made k ≡ Some (y, bytes)
+        → IsKept left kept y bytes
 
   module _ (w : Hosts) (left : ℕ → ℕ) (kept : List HostEntry) (x : ℕ) (n : PlainEntry) (ss : List HostEntry)
       (keeps : Keeps w left kept ((x, n) ∷ ss)) where
@@ -66,7 +66,8 @@ module _ (j : Journals) (is_cut : ℕ → Bool) where
     -- the entry is not kept: nothing is left of its host's journal
     leave_out : left x ≡ 0 → x < j.openings.count → Keeps (after j.openings w x n) left kept ss
     leave_out none lt = record {
-      entries = λ y y_lt. left_out (y == x) (left y) n (entries_at y kept) (entries_at y ss) (j.entries y) (own y 0 none) (keeps.entries y y_lt);
+      entries = λ y y_lt. left_out (y == x) (left y) n (entries_at y kept) (entries_at y ss) (j.entries y)
+          (own y 0 none) (keeps.entries y y_lt);
       whole = λ y y_lt not_cut. by y (y == x) refl (keeps.whole y y_lt not_cut);
       all = keeps.all;
       made = λ y k bytes y_lt at.
@@ -83,7 +84,8 @@ module _ (j : Journals) (is_cut : ℕ → Bool) where
               absurd (omega (arith, all, more, none)))
         ]
 
-        by : (y : ℕ) (b : Bool) → (y == x) ≡ b → left y ≡ length (cons_if (y == x) n (entries_at y ss)) → left y ≡ length (entries_at y ss)
+        by : (y : ℕ) (b : Bool) → (y == x) ≡ b → left y ≡ length (cons_if (y == x) n (entries_at y ss))
+            → left y ≡ length (entries_at y ss)
         by y true is all =
             let some = ap (λ b. length (cons_if b n (entries_at y ss))) is in
             let z = own y 0 none is in
@@ -114,7 +116,8 @@ module _ (j : Journals) (is_cut : ℕ → Bool) where
           was_cut = o.1;
           ended =
               sym (append-nil (entries_at is.from kept))
-              ∙ ap (λ xs. entries_at is.from kept ++ xs) (sym (ap (λ k. take k (entries_at is.from ((x, n) ∷ ss))) o.0 ∙ take_none (entries_at is.from ((x, n) ∷ ss))))
+              ∙ ap (λ xs. entries_at is.from kept ++ xs) (sym (ap (λ k. take k (entries_at is.from ((x, n) ∷ ss))) o.0
+                  ∙ take_none (entries_at is.from ((x, n) ∷ ss))))
               ∙ keeps.entries is.from lt;
         })
 
@@ -123,8 +126,10 @@ module _ (j : Journals) (is_cut : ℕ → Bool) where
     keep q more e makes = record {
       entries = λ y y_lt.
           ap (λ xs. xs ++ take (put left x q y) (entries_at y ss)) (entries_append y kept ((x, n) ∷ []))
-          ∙ kept_next (y == x) (left y) q n (entries_at y kept) (entries_at y ss) (j.entries y) (own y (suc q) more) (keeps.entries y y_lt);
-      whole = λ y y_lt not_cut. whole_next (y == x) (left y) q n (entries_at y ss) (own y (suc q) more) (keeps.whole y y_lt not_cut);
+          ∙ kept_next (y == x) (left y) q n (entries_at y kept) (entries_at y ss) (j.entries y) (own y (suc q) more)
+              (keeps.entries y y_lt);
+      whole = λ y y_lt not_cut. whole_next (y == x) (left y) q n (entries_at y ss) (own y (suc q) more)
+          (keeps.whole y y_lt not_cut);
       all = all_snoc j is_cut kept x n makes.there (explained e n.event refl makes.event) keeps.all;
       made = λ y k bytes y_lt at.
           made_step y x (IsKept (put left x q) (kept ++ (x, n) ∷ []) y) w.made n.frame
@@ -145,17 +150,20 @@ module _ (j : Journals) (is_cut : ℕ → Bool) where
         new : (b : List ℕ) → n.frame ≡ Some b → IsAmong x (kept ++ (x, n) ∷ []) b
         new b is = (
           length (all_made kept),
-          ap (λ ms. slice_get ms (length (all_made kept))) (all_are ∙ ap (λ o. all_made kept ++ made_more x o) is) ∙ get_end (all_made kept) (x, b),
+          ap (λ ms. slice_get ms (length (all_made kept))) (all_are ∙ ap (λ o. all_made kept ++ made_more x o) is)
+              ∙ get_end (all_made kept) (x, b),
         )
 
   abbrev Explanation : Type 0
   Explanation = (sequence : List HostEntry) × IsExplanation j is_cut sequence
 
-  one_kept : (e : Event) (w : Hosts) (left : ℕ → ℕ) (kept : List HostEntry) (x : ℕ) (n : PlainEntry) (ss : List HostEntry)
+  one_kept : (e : Event) (w : Hosts) (left : ℕ
+      → ℕ) (kept : List HostEntry) (x : ℕ) (n : PlainEntry) (ss : List HostEntry)
       → Makes j.openings w e x n → Keeps w left kept ((x, n) ∷ ss)
       → ((left' : ℕ → ℕ) (kept' : List HostEntry) → Keeps (after j.openings w x n) left' kept' ss → Explanation)
       → (m : ℕ) → left x ≡ m → Explanation
-  one_kept e w left kept x n ss makes keeps again zero is = again left kept (leave_out w left kept x n ss keeps is makes.there)
+  one_kept e w left kept x n ss makes keeps again zero is = again left kept
+      (leave_out w left kept x n ss keeps is makes.there)
   one_kept e w left kept x n ss makes keeps again (suc q) is =
       again (put left x q) (kept ++ (x, n) ∷ []) (keep w left kept x n ss keeps q is e makes)
 
@@ -165,7 +173,8 @@ module _ (j : Journals) (is_cut : ℕ → Bool) where
     kept,
     record {
       entries = λ y lt.
-          sym (append-nil (entries_at y kept)) ∙ ap (λ xs. entries_at y kept ++ xs) (sym (nothing (left y))) ∙ keeps.entries y lt;
+          sym (append-nil (entries_at y kept)) ∙ ap (λ xs. entries_at y kept ++ xs) (sym (nothing (left y)))
+              ∙ keeps.entries y lt;
       all = keeps.all;
     },
   )
@@ -190,7 +199,8 @@ completion_explains j k is_cut es c o =
     (subst (λ (p : Openings). IsRun p (opened p) es o.sequence) c.openings o.run)
     (record {
       entries = λ y lt.
-          ap (take (length (j.entries y))) (entries y lt ∙ (c.goes_on y lt).1) ∙ take_first (j.entries y) (c.goes_on y lt).0;
+          ap (take (length (j.entries y))) (entries y lt ∙ (c.goes_on y lt).1)
+              ∙ take_first (j.entries y) (c.goes_on y lt).0;
       whole = λ y lt not_cut. ap (λ (xs : List PlainEntry). length xs) (sym (entries y lt ∙ c.ends y lt not_cut));
       all = record { there = λ i s at. absurd cc; explained = λ i s at. absurd cc };
       made = λ y i bytes lt at. absurd cc;

@@ -1,5 +1,5 @@
 -- One more entry joins the order.
-use Rattle.std.proofs.Common.{◌≡◌, ◌∙◌, ℕ, zero, suc, ◌+◌, ◌<◌, ◌≤◌, ◌==◌, Bool, true, false, if◌then◌else◌, List, [], ◌∷◌, ◌++◌, Option, length, length-append, take, drop, append_assoc, append-nil, Some, None, refl, sym, ap, subst, arith, inl, inr}
+use Rattle.std.proofs.Common.{◌≡◌, ◌∙◌, ℕ, zero, suc, ◌+◌, ◌<◌, ◌==◌, Bool, true, false, if◌then◌else◌, List, [], ◌∷◌, ◌++◌, Option, length, length-append, take, drop, append_assoc, Some, None, refl, sym, ap, subst, arith, inl, inr}
 use Rattle.std.specs.Prelude.{slice_get, is_some, bytes_eq, ◌⊎◌}
 use Rattle.std.proofs.Math.Seq.{take-length}
 use Rattle.std.proofs.lemmas.Bool.{eqb-true, ltb-true}
@@ -17,7 +17,7 @@ use Rattle.rvm_core.specs.declared.event.Event.{Event}
 use Rattle.rvm_core.specs.declared.event.Event.TheVariants.{At, Deliver}
 use Rattle.rvm_audit.specs.Hosts.{HasBytes, HostEntry, Hosts, IsEvent, IsRun, Made, Makes, Openings, after, after_all, cons_if, entries_at, made_more, opened, outcome_in}
 use Rattle.rvm_audit.specs.Orders.{CameUnmade, IsStuck, Journals, cut}
-use Rattle.rvm_audit.proofs.Gets.{drop_end, drop_get, get_end, get_front, get_last, get_nothing, get_take, take_get}
+use Rattle.rvm_audit.proofs.Gets.{drop_end, drop_get, get_end, get_front, get_last, get_nothing, get_take}
 use Rattle.rvm_audit.proofs.Runs.{ends_of, host_after}
 use Rattle.rvm_audit.proofs.Steps.{and_first, cons_append, done_next, within_next}
 use Rattle.rvm_audit.specs.Merged.{IsIndex, Merged}

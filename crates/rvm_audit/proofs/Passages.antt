@@ -2,7 +2,7 @@
 use Rattle.std.proofs.Common.{◌≡◌, ◌∙◌, ℕ, zero, suc, ◌+◌, ◌<◌, ◌≤◌, ◌==◌, not, Bool, true, false, if◌then◌else◌, List, [], ◌∷◌, ◌++◌, Option, length, append-nil, take, Some, None, refl, sym, ap, subst, arith, inl, inr}
 use Rattle.std.specs.Prelude.{slice_get, is_some, bytes_eq, ◌⊎◌}
 use Rattle.std.proofs.Math.Seq.{take-length}
-use Rattle.std.proofs.lemmas.Bool.{cases_Bool, eqb-true, ltb-true}
+use Rattle.std.proofs.lemmas.Bool.{eqb-true, ltb-true}
 use Rattle.std.proofs.lemmas.Option.{same_Some, slice_get_within, some_pair_parts}
 use Rattle.std.proofs.lemmas.Slice.Eq.{bytes_eq-Decides}
 use Rattle.rvm_frame.specs.declared.frame.Frame.{Frame}
@@ -11,24 +11,26 @@ use Rattle.rvm_message.specs.declared.event.HostEvent.{HostEvent}
 use Rattle.rvm_message.specs.declared.event.HostEvent.TheVariants.{Do, Came}
 use Rattle.rvm_protocol.specs.Host.{is_there}
 use Rattle.rvm_protocol.specs.Pages.{put}
-use Rattle.rvm_audit.specs.Hosts.{HasBytes, HostEntry, Made, cons_if, entries_at, made_more}
-use Rattle.rvm_audit.specs.Orders.{CameUnmade, IsClosed, IsStuck, Journals, MadeBelow}
+use Rattle.rvm_audit.specs.Hosts.{HasBytes, HostEntry, Made, cons_if, made_more}
+use Rattle.rvm_audit.specs.Orders.{CameUnmade, IsClosed, IsStuck, Journals}
 use Rattle.rvm_audit.specs.Merging.{Places, key_of, noted}
-use Rattle.rvm_audit.specs.Cuts.{AllExplained, Contradicts, IsContradiction, IsExplained, IsExplanation, all_made}
+use Rattle.rvm_audit.specs.Cuts.{AllExplained, IsContradiction, IsExplained, all_made}
 use Rattle.rvm_audit.specs.Passing.{AreKnown, HasPassed, IsBlocked, IsPassage, MayNotPass, MayPass}
 use Rattle.rvm_audit.proofs.Gets.{get_end, get_front, get_last, get_nothing, get_take}
 use Rattle.rvm_audit.proofs.Steps.{and_first, done_next, within_next}
-use Rattle.rvm_audit.proofs.Explanations.{IsAmong, entries_append, made_among}
+use Rattle.rvm_audit.proofs.Explanations.{entries_append, made_among}
 
 -- THE FRAMES THAT ARE KNOWN
 
-is_noted : (o : Option ℕ) (b : Bool) (place : ℕ) → is_some (if is_some o then o else (if b then Some place else None)) ≡ true
+is_noted : (o : Option ℕ) (b : Bool) (place : ℕ)
+    → is_some (if is_some o then o else (if b then Some place else None)) ≡ true
     → (is_some o ≡ true) ⊎ (b ≡ true)
 is_noted (Some n) b place is = inl refl
 is_noted None true place is = inr refl
 is_noted None false place is = absurd cc
 
-not_noted : (o : Option ℕ) (b : Bool) (place : ℕ) → is_some (if is_some o then o else (if b then Some place else None)) ≡ false
+not_noted : (o : Option ℕ) (b : Bool) (place : ℕ)
+    → is_some (if is_some o then o else (if b then Some place else None)) ≡ false
     → (is_some o ≡ false) × (b ≡ false)
 not_noted (Some n) b place is = absurd cc
 not_noted None true place is = absurd cc
@@ -44,7 +46,8 @@ known_next x None place made p q known own = record {
       (let f = known.found y bytes (ap (λ (o : Option ℕ). is_some o) (sym (own (y ∷ bytes))) ∙ is) in
       (f.0, get_front made [] f.0 (y, bytes) f.1));
   all = λ y bytes k is at.
-      known.all y bytes k (ap (λ (o : Option ℕ). is_some o) (sym (own (y ∷ bytes))) ∙ is) (get_nothing made k (y, bytes) at);
+      known.all y bytes k (ap (λ (o : Option ℕ). is_some o) (sym (own (y ∷ bytes)))
+          ∙ is) (get_nothing made k (y, bytes) at);
 }
 known_next x (Some new) place made p q known own = record {
   found = λ y bytes is.
@@ -72,7 +75,8 @@ known_next x (Some new) place made p q known own = record {
 
 -- ONE ENTRY MORE
 
-pub made_append : (ss : List HostEntry) (x : ℕ) (n : PlainEntry) → all_made (ss ++ (x, n) ∷ []) ≡ all_made ss ++ made_more x n.frame
+pub made_append : (ss : List HostEntry) (x : ℕ) (n : PlainEntry)
+    → all_made (ss ++ (x, n) ∷ []) ≡ all_made ss ++ made_more x n.frame
 made_append [] x n = append-nil (made_more x n.frame)
 made_append (s ∷ ss) x n =
     ap (λ ms. made_more s.0 s.1.frame ++ ms) (made_append ss x n)
@@ -127,7 +131,8 @@ module _ (j : Journals) (is_cut : ℕ → Bool) (at : ℕ → ℕ) (made : Place
     lt : from < j.openings.count
     lt = ltb-true from j.openings.count (and_first _ _ may.other)
 
-    by : ((spent from ≡ true) ⊎ (is_some (made (from ∷ may.bytes)) ≡ true)) → IsExplained j is_cut m.sequence x (Came from frame)
+    by : ((spent from ≡ true) ⊎ (is_some (made (from ∷ may.bytes)) ≡ true))
+        → IsExplained j is_cut m.sequence x (Came from frame)
     by (inl is) =
         let e = m.ended from lt is in
         inr (record {
@@ -212,21 +217,25 @@ module _ (j : Journals) (is_cut : ℕ → Bool) (at : ℕ → ℕ) (made : Place
 
     stuck : (x : ℕ) → x < j.openings.count → IsStuck j at x
     stuck x lt = by (blocked x lt) where
-      by : IsBlocked (j.openings.host x).version j.openings.count x made spent (is_cut x) (j.entries x) (at x) → IsStuck j at x
+      by : IsBlocked (j.openings.host x).version j.openings.count x made spent (is_cut x) (j.entries x) (at x)
+          → IsStuck j at x
       by (inl e) = let w = m.within x lt in let le = e.0 in inl (omega (arith, w, le))
       by (inr n) = inr (unmade x n.0 n.1 n.0.event refl n.2)
 
     waits_for : (x from : ℕ) (frame : Frame) (bytes : List ℕ) (e : HostEvent)
         → MayNotPass (j.openings.host x).version j.openings.count x made spent e → e ≡ Came from frame
-        → is_there x j.openings.count from ≡ true → HasBytes (j.openings.host x).version from x frame bytes → members from ≡ true
+        → is_there x j.openings.count from ≡ true → HasBytes (j.openings.host x).version from x frame bytes
+            → members from ≡ true
     waits_for x from frame bytes e never is other has =
         let n = subst (MayNotPass (j.openings.host x).version j.openings.count x made spent) is never in
         ap not (n bytes other has).0
 
     closed : IsClosed j at members
     closed x from frame n bytes lt here there came other has = by (blocked x lt) where
-      by : IsBlocked (j.openings.host x).version j.openings.count x made spent (is_cut x) (j.entries x) (at x) → members from ≡ true
-      by (inl e) = let l = slice_get_within (j.entries x) (at x) n there in let le = e.0 in absurd (omega (arith, l, le))
+      by : IsBlocked (j.openings.host x).version j.openings.count x made spent (is_cut x) (j.entries x) (at x)
+          → members from ≡ true
+      by (inl e) = let l = slice_get_within (j.entries x) (at x) n there in let le = e.0 in absurd (omega
+          (arith, l, le))
       by (inr b) =
           let same = same_Some b.0 n (sym b.1 ∙ there) in
           waits_for x from frame bytes b.0.event b.2 (ap (λ (p : PlainEntry). p.event) same ∙ came) other has

@@ -1,9 +1,9 @@
 -- Going through parts: where it begins, how a turn leaves it, and where it ends.
-use Rattle.std.proofs.Common.{◌≡◌, ◌∙◌, ◌≢◌, ℕ, zero, suc, ◌+◌, ◌*◌, ◌<◌, ◌≤◌, ◌==◌, not, Bool, true, false, if◌then◌else◌, List, [], ◌∷◌, ◌++◌, drop, get_or, set, length, length-append, length-drop, length-set, replicate, Option, None, Some, refl, sym, ap, subst, arith, inl, inr}
+use Rattle.std.proofs.Common.{◌≡◌, ◌∙◌, ℕ, zero, suc, ◌+◌, ◌*◌, ◌<◌, ◌≤◌, not, Bool, true, false, if◌then◌else◌, List, [], ◌∷◌, ◌++◌, drop, get_or, set, length, length-drop, length-set, replicate, Option, None, Some, refl, sym, ap, subst, arith, inl, inr}
 use Rattle.std.specs.Prelude.{MatchOption, is_some, slice_get, ◌⊎◌}
-use Rattle.std.proofs.lemmas.Bool.{cases_eq, cases_lt, eq-eqb, ne_eqb}
-use Rattle.std.proofs.lemmas.List.{get_or-set_other, get_or-set_same, get_or_default}
-use Rattle.std.proofs.lemmas.Option.{MatchOption-at_none, MatchOption-at_some, same_Some, slice_get_read, slice_get_within}
+use Rattle.std.proofs.lemmas.Bool.{cases_eq, cases_lt}
+use Rattle.std.proofs.lemmas.List.{get_or-set_other, get_or_default}
+use Rattle.std.proofs.lemmas.Option.{MatchOption-at_none, MatchOption-at_some, same_Some, slice_get_read}
 use Rattle.rvm_recorder.specs.declared.item.ItemRef.{ItemRef}
 use Rattle.rvm_recorder.specs.declared.item.ItemRef.TheVariants.{Entry, Rounds, Steps}
 use Rattle.rvm_recorder.specs.declared.rounds.Rounds.{Rounds as RoundRow}
@@ -12,7 +12,7 @@ use Rattle.rvm_recorder.specs.Entries.{PlainEntry}
 use Rattle.rvm_recorder.specs.Items.{all_of, entries_at, rounds_of, steps_in_turn}
 use Rattle.rvm_recorder.proofs.InRounds.{rounds_length}
 use Rattle.rvm_recorder.proofs.StepRuns.{steps_length}
-use Rattle.rvm_recorder.proofs.Spans.{drop_all_of, drop_at, drop_drop, next_at, next_left}
+use Rattle.rvm_recorder.proofs.Spans.{drop_at, next_at, next_left}
 use Rattle.rvm_protocol.specs.Pages.{put}
 use Rattle.rvm_core.specs.declared.event.Event.{Event}
 use Rattle.rvm_audit.specs.Orders.{Journals}
@@ -35,7 +35,8 @@ use Rattle.rvm_audit.proofs.Taken.{put_here, put_none, put_twice}
 
 module _ (j : Journals) (is_cut : ℕ → Bool) (x : ℕ) (lt : x < j.openings.count) where
   -- commands are passed at once
-  pass_run : (xs : List PlainEntry) (es : List Event) (at : ℕ → ℕ) (p : Places) (spent : ℕ → Bool) (rest : List PlainEntry)
+  pass_run : (xs : List PlainEntry) (es : List Event) (at : ℕ → ℕ) (p : Places) (spent : ℕ
+      → Bool) (rest : List PlainEntry)
       → IsPassage j is_cut at p spent → drop (at x) (j.entries x) ≡ xs ++ rest → AreCommands x xs es
       → IsPassage j is_cut (put at x (at x + length xs)) p spent
   pass_run [] es at p spent rest m is so =
@@ -61,7 +62,8 @@ module _ (j : Journals) (is_cut : ℕ → Bool) (x : ℕ) (lt : x < j.openings.c
   abbrev pub IsPassageOf : (ℕ → ℕ) → Known → Type 0
   IsPassageOf at k = IsPassage j is_cut at (places_of k.made) (marked k.spent.items)
 
-  pub item_passed : (at : ℕ → ℕ) (old new : Known) (item : ItemRef) (row : Row) (rest : List PlainEntry) → IsPassageOf at old
+  pub item_passed : (at : ℕ → ℕ) (old new : Known) (item : ItemRef) (row : Row) (rest : List PlainEntry)
+      → IsPassageOf at old
       → drop (at x) (j.entries x) ≡ entries_at item ++ rest
       → ItemPasses (j.openings.host x).version j.openings.count x item row old new
       → IsPassageOf (put at x (at x + length (entries_at item))) new
@@ -83,7 +85,8 @@ module _ (j : Journals) (is_cut : ℕ → Bool) (x : ℕ) (lt : x < j.openings.c
 pub steps_passed : (version count x : ℕ) (item : ItemRef) (s : StepRow) (row : Row) (old : Known) → item ≡ Steps s
     → row.entries ≡ s.count → ItemPasses version count x item row old old
 steps_passed version count x item s row old is n_is =
-    subst (λ i. ItemPasses version count x i row old old) (sym is) (n_is ∙ sym (steps_length s.turn s.harts s.count), refl)
+    subst (λ i. ItemPasses version count x i row old old) (sym is) (n_is
+        ∙ sym (steps_length s.turn s.harts s.count), refl)
 
 pub rounds_passed : (version count x : ℕ) (item : ItemRef) (r : RoundRow) (row : Row) (old : Known) → item ≡ Rounds r
     → row.entries ≡ r.count * (r.steps + 1) → ItemPasses version count x item row old old
@@ -97,7 +100,8 @@ no_frame None b is so = refl
 no_frame (Some bytes) b is so = absurd cc
 
 module _ (version count x : ℕ) (old new : Known) where
-  pub as_many : (item : ItemRef) (row : Row) → ItemPasses version count x item row old new → row.entries ≡ length (entries_at item)
+  pub as_many : (item : ItemRef) (row : Row) → ItemPasses version count x item row old new
+      → row.entries ≡ length (entries_at item)
   as_many (Entry e) row t = t.entries
   as_many (Steps s) row t = t.0
   as_many (Rounds r) row t = t.0
@@ -110,7 +114,8 @@ module _ (version count x : ℕ) (old new : Known) where
   pub same_made : (item : ItemRef) (row : Row) → ItemPasses version count x item row old new → row.is_silent ≡ true
       → (key : List ℕ) → places_of new.made key ≡ places_of old.made key
   same_made (Entry e) row t is key =
-      t.made key ∙ ap (λ o. noted (key_of x o) 0 (places_of old.made) key) (no_frame e.now.frame row.is_silent t.silent is)
+      t.made key ∙ ap (λ o. noted (key_of x o) 0 (places_of old.made) key)
+          (no_frame e.now.frame row.is_silent t.silent is)
   same_made (Steps s) row t is key = ap (λ (k : Known). places_of k.made key) t.1
   same_made (Rounds r) row t is key = ap (λ (k : Known). places_of k.made key) t.1
 
@@ -151,13 +156,15 @@ starts_passing parts cuts places known n none spent spent_long long at = record 
 -- A TURN
 
 -- the turn of a host whose part is there, while the hosts below are blocked
-pub record PassTurn (parts : List Part) (cuts : List Bool) (places : List Place) (old : Known) (host : ℕ) (part : Part) (place : Place) : Type 0 where
+pub record PassTurn (parts : List Part) (cuts : List Bool) (places : List Place) (old : Known) (host : ℕ) (part : Part)
+    (place : Place) : Type 0 where
   pub passing : IsPassing parts cuts places old
   pub lower : AllBlocked parts cuts places old host
   pub here : slice_get parts host ≡ Some part
   pub place_is : place ≡ place_at places host
 
-pub pass_turn_of : (parts : List Part) (cuts : List Bool) (places : List Place) (old : Known) (host : ℕ) (part : Part) (place : Place)
+pub pass_turn_of : (parts : List Part) (cuts : List Bool) (places : List Place) (old : Known) (host : ℕ) (part : Part)
+    (place : Place)
     → IsPassing parts cuts places old → AllBlocked parts cuts places old host → host < length parts
     → part ≡ get_or parts host part → place ≡ get_or places host place → PassTurn parts cuts places old host part place
 pass_turn_of parts cuts places old host part place passing lower lt part_is place_is = record {
@@ -181,7 +188,8 @@ next_item_is part place entries item here look = record {
       ∙ ap (λ (xs : List PlainEntry). xs ∷ drop (place.items + 1) part.items.now) (sym look);
 }
 
-module _ (parts : List Part) (cuts : List Bool) (places : List Place) (old new : Known) (host : ℕ) (part : Part) (place : Place)
+module _ (parts : List Part) (cuts : List Bool) (places : List Place) (old new : Known) (host : ℕ) (part : Part)
+    (place : Place)
     (turn : PassTurn parts cuts places old host part place) where
   one : OnePart parts places host part place
   one = record { long = turn.passing.long; each = turn.passing.each; here = turn.here; place_is = turn.place_is }
@@ -212,7 +220,8 @@ module _ (parts : List Part) (cuts : List Bool) (places : List Place) (old new :
     no_entries : length (entries_in part) ≤ place.entries
     no_entries =
         let left : length (drop place.entries (entries_in part)) ≡ 0 =
-        ap (λ (xs : List PlainEntry). length xs) (sym is_at.left ∙ ap all_of (nothing_left part.items.now place.items none))
+        ap (λ (xs : List PlainEntry). length xs) (sym is_at.left
+            ∙ ap all_of (nothing_left part.items.now place.items none))
         in
         omega (arith, length-drop place.entries (entries_in part), left)
       where
@@ -222,7 +231,8 @@ module _ (parts : List Part) (cuts : List Bool) (places : List Place) (old new :
         nothing_left (x ∷ xs) zero le = absurd (omega (arith, le))
         nothing_left (x ∷ xs) (suc i) le = nothing_left xs i (omega (arith, le))
 
-    marks_more : (y : ℕ) → marked (set old.spent.items host true) y ≡ true → (marked old.spent.items y ≡ true) ⊎ (y ≡ host)
+    marks_more : (y : ℕ) → marked (set old.spent.items host true) y ≡ true
+        → (marked old.spent.items y ≡ true) ⊎ (y ≡ host)
     marks_more y is = elim (cases_eq y host) [
       | inl same ↦ inr same
       | inr other ↦ inl (sym (get_or-set_other old.spent.items host y true false other) ∙ is)
@@ -238,7 +248,8 @@ module _ (parts : List Part) (cuts : List Bool) (places : List Place) (old new :
       passage = λ j are.
           (let is_of = are.each host part turn.here in
           let m = turn.passing.passage j are in
-          let within = m.within host (let c = are.count_is in let t = there parts places host part place one in omega (arith, c, t)) in
+          let within = m.within host (let c = are.count_is in let t = there parts places host part place one in omega
+              (arith, c, t)) in
           let entries = ap (λ (xs : List PlainEntry). length xs) is_of.entries_are in
           let at : taken places host ≡ place.entries = ap (λ (k : Place). k.entries) (sym turn.place_is) in
           let all = no_entries in
@@ -260,7 +271,8 @@ module _ (parts : List Part) (cuts : List Bool) (places : List Place) (old new :
 
   module _ (item : ItemRef) (is_next : IsNextItem part place item) where
     left : drop place.entries (entries_in part) ≡ entries_at item ++ all_of is_next.rest
-    left = entries_left parts places host part place one (length (entries_at item)) (entries_at item) is_next.rest is_next.split refl
+    left = entries_left parts places host part place one (length (entries_at item))
+        (entries_at item) is_next.rest is_next.split refl
 
     module _ (blocks : ItemBlocks part.version (length parts) host item old new) where
       same : new ≡ old
@@ -284,7 +296,8 @@ module _ (parts : List Part) (cuts : List Bool) (places : List Place) (old new :
       fits = items_left parts places host part place one row.entries (entries_at item) is_next.rest is_next.split size
 
       within : place.entries + row.entries ≤ length (entries_in part)
-      within = entries_within parts places host part place one row.entries (entries_at item) is_next.rest is_next.split size
+      within = entries_within parts places host part place one row.entries
+          (entries_at item) is_next.rest is_next.split size
 
       abbrev pub after : List Place
       after = behind places host place row.entries
@@ -313,7 +326,8 @@ module _ (parts : List Part) (cuts : List Bool) (places : List Place) (old new :
       goes_on_passing = record {
         long = as_long parts places host part place one row.entries (entries_at item) is_next.rest is_next.split size;
         spent =
-            ap (λ s. length s.items) (same_spent part.version (length parts) host old new item row t) ∙ turn.passing.spent;
+            ap (λ s. length s.items) (same_spent part.version (length parts) host old new item row t)
+                ∙ turn.passing.spent;
         each = at_each parts places host part place one row.entries (entries_at item) is_next.rest is_next.split size;
         passage = passage;
       }
@@ -322,7 +336,8 @@ module _ (parts : List Part) (cuts : List Bool) (places : List Place) (old new :
       silent : row.is_silent ≡ true → AllBlocked parts cuts after new host
       silent is = λ x other lt at.
           subst (λ (k : Place). Blocked new other x k.entries)
-          (sym (other_place parts places host part place one row.entries (entries_at item) is_next.rest is_next.split size x
+          (sym (other_place parts places host part place one row.entries
+              (entries_at item) is_next.rest is_next.split size x
           (λ same. omega (arith, same, lt))))
           (subst (λ s. IsBlocked other.version (length parts) x (places_of new.made) (marked s.items) (marked cuts x)
           (entries_in other) (taken places x)) (sym (same_spent part.version (length parts) host old new item row t))
@@ -378,7 +393,8 @@ pub has_passed : (parts : List Part) (cuts : List Bool) (places : List Place) (k
     → IsPassing parts cuts places known → AllBlocked parts cuts places known n → length parts ≤ n
     → (j : Journals) → AreOf j parts → HasPassed j (marked cuts) (taken places)
 has_passed parts cuts places known n passing all le j are =
-    passed j (marked cuts) (taken places) (places_of known.made) (marked known.spent.items) (passing.passage j are) blocked
+    passed j (marked cuts) (taken places) (places_of known.made) (marked known.spent.items)
+        (passing.passage j are) blocked
   where
     blocked : (x : ℕ) → x < j.openings.count
         → IsBlocked (j.openings.host x).version j.openings.count x (places_of known.made) (marked known.spent.items)
@@ -392,6 +408,7 @@ has_passed parts cuts places known n passing all le j are =
         (j.entries x) (taken places x)) is_of.version_is
         (subst (λ k. IsBlocked part.0.version k x (places_of known.made) (marked known.spent.items) (marked cuts x)
         (j.entries x) (taken places x)) (sym are.count_is)
-        (subst (λ xs. IsBlocked part.0.version (length parts) x (places_of known.made) (marked known.spent.items) (marked cuts x)
+        (subst (λ xs. IsBlocked part.0.version (length parts) x (places_of known.made) (marked known.spent.items)
+            (marked cuts x)
         xs (taken places x)) is_of.entries_are
         (all x part.0 (omega (arith, there, le)) part.1)))

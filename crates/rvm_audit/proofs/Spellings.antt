@@ -1,6 +1,6 @@
 -- The bytes of a frame that comes.
-use Rattle.std.proofs.Common.{◌≡◌, ◌∙◌, ℕ, ◌<◌, ◌&&◌, ◌||◌, not, Bool, true, false, Option, Some, None, List, [], ◌∷◌, MatchOption, refl, sym, ap, subst}
-use Rattle.std.specs.Prelude.{IfOk, Vec, Result, Ok, Err, is_some, ◌⊎◌}
+use Rattle.std.proofs.Common.{◌≡◌, ◌∙◌, ℕ, ◌<◌, ◌&&◌, not, Bool, true, false, Option, Some, None, List, [], ◌∷◌, MatchOption, sym, ap, subst}
+use Rattle.std.specs.Prelude.{IfOk, Vec, Result, Ok, Err}
 use Rattle.std.specs.BTreeMap.{BTreeMap, is_at}
 use Rattle.std.specs.Cmp.Lexicographic.{slice_cmp}
 use Rattle.std.specs.Map.{lookup}
@@ -71,7 +71,8 @@ module _ {K : Type 0} (version count x from : ℕ) (f : Frame) (o : Option K) (I
   may_not_come made spent = λ bytes other same. absurd (never bytes other same)
 
 -- what a frame that may not come says of the event that it came
-pub stays_blocked : {E : Type 0} (version count x : ℕ) (made : Places) (spent : ℕ → Bool) (e : HostEvent) (r : Result Bool E)
+pub stays_blocked : {E : Type 0} (version count x : ℕ) (made : Places) (spent : ℕ
+    → Bool) (e : HostEvent) (r : Result Bool E)
     (from : ℕ) (f : Frame) → e ≡ Came from f → IfOk r (λ b. b ≡ false → MayNotCome version count x made spent from f)
     → IfOk r (λ b. b ≡ false → MayNotPass version count x made spent e)
 stays_blocked version count x made spent e (Ok b) from f is told =

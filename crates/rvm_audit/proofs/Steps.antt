@@ -68,12 +68,15 @@ get_back (suc q) (x ∷ xs) zero s at = at
 get_back (suc q) (x ∷ xs) (suc k) s at = get_back q xs k s at
 
 -- what a host has done, and how far it is, after one of its entries
-pub done_next : (b : Bool) (i k : ℕ) (n : PlainEntry) (xs : List PlainEntry) → (b ≡ true → (slice_get xs i ≡ Some n) × (k ≡ suc i))
+pub done_next : (b : Bool) (i k : ℕ) (n : PlainEntry) (xs : List PlainEntry) → (b ≡ true
+    → (slice_get xs i ≡ Some n) × (k ≡ suc i))
     → take i xs ++ cons_if b n [] ≡ take (if b then k else i) xs
 done_next true i k n xs is = sym (take_get xs i n (is refl).0) ∙ ap (λ m. take m xs) (sym (is refl).1)
 done_next false i k n xs is = append-nil (take i xs)
 
-pub within_next : (b : Bool) (i k : ℕ) (n : PlainEntry) (xs : List PlainEntry) → (b ≡ true → (slice_get xs i ≡ Some n) × (k ≡ suc i))
+pub within_next : (b : Bool) (i k : ℕ) (n : PlainEntry) (xs : List PlainEntry) → (b ≡ true
+    → (slice_get xs i ≡ Some n) × (k ≡ suc i))
     → i ≤ length xs → (if b then k else i) ≤ length xs
-within_next true i k n xs is le = let l = slice_get_within xs i n (is refl).0 in let e = (is refl).1 in omega (arith, l, e)
+within_next true i k n xs is le = let l = slice_get_within xs i n (is refl).0 in let e = (is refl).1 in omega
+    (arith, l, e)
 within_next false i k n xs is le = le

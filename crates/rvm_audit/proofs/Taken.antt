@@ -1,5 +1,5 @@
 -- An item is taken: an entry, or a run of commands at once.
-use Rattle.std.proofs.Common.{◌≡◌, ◌∙◌, ℕ, zero, suc, ◌+◌, ◌*◌, ◌<◌, ◌≤◌, ◌==◌, Bool, true, false, if◌then◌else◌, List, [], ◌∷◌, ◌++◌, length, length-append, length-drop, drop, append_assoc, append-nil, inl, inr, refl, sym, ap, subst, arith}
+use Rattle.std.proofs.Common.{◌≡◌, ◌∙◌, ℕ, zero, suc, ◌+◌, ◌*◌, ◌<◌, ◌≤◌, ◌==◌, Bool, true, false, if◌then◌else◌, List, [], ◌∷◌, ◌++◌, length, length-drop, drop, append_assoc, append-nil, inl, inr, refl, sym, ap, subst, arith}
 use Rattle.std.proofs.lemmas.Bool.{eq-eqb, eqb-true}
 use Rattle.std.specs.Prelude.{IfOk, MatchOption, Option, Some, None, Result, Ok, Err, slice_get}
 use Rattle.rvm_recorder.specs.declared.item.ItemRef.{ItemRef}
@@ -11,7 +11,7 @@ use Rattle.rvm_recorder.specs.Items.{all_of, entries_at, rounds_of, steps_in_tur
 use Rattle.rvm_recorder.specs.Replay.{IsReplay}
 use Rattle.rvm_recorder.proofs.InRounds.{rounds_length}
 use Rattle.rvm_recorder.proofs.StepRuns.{steps_length}
-use Rattle.rvm_recorder.proofs.Spans.{drop_all_of, drop_drop, next_at, next_left}
+use Rattle.rvm_recorder.proofs.Spans.{next_at, next_left}
 use Rattle.rvm_protocol.specs.Pages.{put}
 use Rattle.rvm_core.specs.declared.event.Event.{Event}
 use Rattle.rvm_audit.specs.Orders.{Journals}

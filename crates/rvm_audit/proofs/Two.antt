@@ -19,7 +19,7 @@ use Rattle.rvm_audit.specs.ListOrders.{IsDeadEnd, IsMerge, IsOrder, both}
 use Rattle.rvm_audit.specs.Parts.{AreOf, IsOf, taken}
 use Rattle.rvm_audit.specs.Rule.{IsEnd}
 use Rattle.rvm_audit.proofs.Lists.{at_dead_end, in_order}
-use Rattle.rvm_audit.proofs.Parts.{start}
+use Rattle.rvm_audit.proofs.Behind.{start}
 use Rattle.rvm_audit.specs.PairRuns.{AreNew, IsWorldRun}
 
 -- what holds of hosts 0 and 1 holds of both

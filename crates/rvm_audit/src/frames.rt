@@ -22,7 +22,7 @@ pub(crate) fn frame_key(alloc: Global, maker: u8, bytes: &[u8]) -> Result<Vec<u8
 
 /// Notes this place as that of the frame of a host's entry, if it made one, unless an equal frame of this host has a
 /// place. Returns whether it made one.
-pub(crate) fn note_frame(
+pub(crate) fn note_made(
     alloc: Global,
     places: &mut Places,
     host: u8,

@@ -5,7 +5,7 @@ ghost use Rattle.rvm_audit.specs.Cuts.{marked};
 ghost use Rattle.rvm_audit.specs.Merging.{places_of};
 ghost use Rattle.rvm_audit.specs.Passing.{IsEntryPassed, ItemBlocks, ItemPasses, MayCome, MayNotCome, MayNotPass, MayPass};
 
-use crate::frames::{came, key_of_coming, note_frame};
+use crate::frames::{came, key_of_coming, note_made};
 use crate::places::{Places, lookup};
 use rvm_frame::Frame;
 use rvm_message::Exchange;
@@ -88,7 +88,7 @@ impl Known {
         if !self.may_pass(alloc, host, count, version, entry.exchange())? {
             return Ok(None);
         }
-        let makes = note_frame(alloc, &mut self.made, host, entry, 0)?;
+        let makes = note_made(alloc, &mut self.made, host, entry, 0)?;
         Ok(Some(Passed {
             entries: 1,
             is_silent: !makes,

@@ -1,11 +1,11 @@
 //! The events that a merge has put in order so far.
 
-ghost use Rattle.std.specs.Prelude.{◌≡◌, ◌∷◌, ◌++◌, ◌<◌, ◌^◌, ◌-◌, IfOk, OnOk, MatchOption, [], ℕ, List, None, drop, length};
+ghost use Rattle.std.specs.Prelude.{◌≡◌, ◌<◌, ◌^◌, ◌-◌, IfOk, OnOk, MatchOption, [], ℕ, List, None, drop, length};
 ghost use Rattle.rvm_audit.specs.Merging.{AreTaken, AreWaiting, Becomes, IsEntryTaken, IsPlaced, IsTaken, IsUnmade, IsUnplaced, Takes, Waits, counted, key_of, noted, places_of};
 ghost use Rattle.rvm_recorder.specs.Items.{entries_at};
 ghost use Rattle.rvm_message.specs.declared.event.HostEvent.TheVariants.{Came};
 
-use crate::frames::{key_of_coming, note_frame};
+use crate::frames::{key_of_coming, note_made};
 use crate::placed::Order;
 use crate::places::{Places, lookup};
 use rvm_board::BoardEvent;
@@ -135,7 +135,7 @@ impl Merge {
             ≡ noted (key_of host entry.now.frame) self.old.made (places_of self.old.places) key) }
         ensures made { OnOk result (self.new.made ≡ counted entry.now.frame self.old.made) }
     {
-        if note_frame(alloc, &mut self.places, host, entry, self.made)? {
+        if note_made(alloc, &mut self.places, host, entry, self.made)? {
             self.made += 1;
         }
         Ok(())
