@@ -12,5 +12,5 @@ returns-in-Ok g c =
       header_is = c.in_ok-header.ensures.header;
       file_is = slice_get-get_or c.args.files.now c.args.index file found.0 ∙ ap Some (sym (found.1 file));
       host = subst (λ (bytes : List ℕ). IsHostOf c.in_ok-header.header bytes c.args.image.now c.in-Ok.recorded)
-          c.deref.ensures.value c.in-Ok.ensures;
+          c.deref.ensures.value c.in-Ok.ensures.host;
     }

@@ -1,0 +1,17 @@
+use Rattle.std.specs.Io.Buffered.{writer_contents}
+use Rattle.rvm_host_command.proofs.Replayed.{answered_if, unanswered_if}
+use Rattle.rvm_host_command.proofs.replay_session.replay_session.Goals as goal
+
+pub returns-in-Ok-clause-answered : goal.returns-in-Ok-clause-answered
+returns-in-Ok-clause-answered g c =
+    answered_if c.args.until c.args.journal.now c.args.image.now c.session_at.result c.in-Ok.recorded c.in-Ok.ensures.host
+    c.args.name.now (writer_contents g.O.Write.contents c.args.output.now)
+    (writer_contents g.O.Write.contents c.session_at.new.output) (g.E.Write.contents c.args.errors.now)
+    (g.E.Write.contents c.session_at.new.errors) (g.R.Read.remaining c.args.reader.now) c.session_at.ensures.answered
+
+pub returns-in-Ok-clause-refused : goal.returns-in-Ok-clause-refused
+returns-in-Ok-clause-refused g c =
+    unanswered_if c.args.until c.args.journal.now c.args.image.now c.session_at.result c.in-Ok.recorded c.in-Ok.ensures.host
+    c.args.name.now (writer_contents g.O.Write.contents c.args.output.now)
+    (writer_contents g.O.Write.contents c.session_at.new.output) (g.E.Write.contents c.args.errors.now)
+    (g.E.Write.contents c.session_at.new.errors) (g.R.Read.remaining c.args.reader.now) c.session_at.ensures.refused
