@@ -6,6 +6,8 @@ pub mod Hosted
 mod OnlyOne
 mod AllHosts
 mod HostJournals
+mod JournalFaults
+mod AuditEnds
 mod Counting
 mod SummaryLines
 pub mod OneWorld
