@@ -37,15 +37,17 @@ among_first : (y x : ℕ) (frame : Option (List ℕ)) (rest : List Made) (bytes 
     → slice_get (made_more x frame ++ rest) 0 ≡ Some (y, bytes)
 among_first y x frame rest bytes same is =
     subst (λ o. slice_get (made_more x o ++ rest) 0 ≡ Some (y, bytes)) (sym is) (ap (λ (z : ℕ). Some (z, bytes))
-        (sym same))
+    (sym same))
 
 made_next : (y x : ℕ) (m : PlainEntry) (ss : List HostEntry) (n : PlainEntry) (bytes : List ℕ)
     → ((k : ℕ) → slice_get (entries_at y ss) k ≡ Some n → IsAmong y ss bytes) → n.frame ≡ Some bytes
     → (b : Bool) → (b ≡ true → y ≡ x) → (k : ℕ) → slice_get (cons_if b m (entries_at y ss)) k ≡ Some n
     → IsAmong y ((x, m) ∷ ss) bytes
-made_next y x m ss n bytes rest is true same zero at =
-    (0, among_first y x m.frame (all_made ss) bytes (same refl) (ap (λ (e : PlainEntry). e.frame) (same_Some m n at)
-        ∙ is))
+made_next y x m ss n bytes rest is true same zero at = (
+  0,
+  among_first y x m.frame (all_made ss) bytes (same refl) (ap (λ (e : PlainEntry). e.frame) (same_Some m n at)
+      ∙ is),
+)
 made_next y x m ss n bytes rest is true same (suc k) at = among_more y (x, m) ss bytes (rest k at)
 made_next y x m ss n bytes rest is false same k at = among_more y (x, m) ss bytes (rest k at)
 
@@ -83,7 +85,7 @@ among_next y x m ss bytes rest (Some new) is zero at =
       entry = m;
       stands =
           subst (λ z. slice_get (entries_at z ((x, m) ∷ ss)) 0 ≡ Some m) same.0 (ap (λ xs. slice_get xs 0)
-              (own_entries x m ss));
+          (own_entries x m ss));
       made = is ∙ ap (λ (b : List ℕ). Some b) same.1;
     }
 among_next y x m ss bytes rest (Some new) is (suc i) at = made_further y (x, m) ss bytes (rest i at)
@@ -100,7 +102,7 @@ pub entries_append : (y : ℕ) (ss ts : List HostEntry) → entries_at y (ss ++ 
 entries_append y [] ts = refl
 entries_append y (s ∷ ss) ts =
     ap (cons_if (y == s.0) s.1) (entries_append y ss ts)
-        ∙ cons_append (y == s.0) s.1 (entries_at y ss) (entries_at y ts)
+    ∙ cons_append (y == s.0) s.1 (entries_at y ss) (entries_at y ts)
 
 take_drop : {X : Type 0} (k : ℕ) (xs : List X) → take k xs ++ drop k xs ≡ xs
 take_drop zero [] = refl
@@ -134,7 +136,7 @@ module _ (j : Journals) (is_cut : ℕ → Bool) (places : ℕ → ℕ) (members 
   -- the next entry of a host that is stuck has no explanation
   no_next : (k x : ℕ) (n : PlainEntry) → AllWithin k → x < j.openings.count → members x ≡ true
       → slice_get (j.entries x) (places x) ≡ Some n → (u : CameUnmade j places x)
-          → IsExplained j is_cut (take k ss) x n.event → ⊥
+      → IsExplained j is_cut (take k ss) x n.event → ⊥
   no_next k x n within lt here at u why = by (subst (IsExplained j is_cut (take k ss) x) event why) where
     same : n ≡ u.entry
     same = same_Some n u.entry (sym at ∙ u.stands)
@@ -180,7 +182,7 @@ module _ (j : Journals) (is_cut : ℕ → Bool) (places : ℕ → ℕ) (members 
     by : (b : Bool) → (b ≡ true → y ≡ s.0) → (y == s.0) ≡ b → length (done (suc k) y) ≤ places y
     by false same is =
         let l = ap (λ (xs : List PlainEntry). length xs) (more ∙ ap (λ b. done k y ++ cons_if b s.1 []) is
-            ∙ append-nil (done k y)) in
+        ∙ append-nil (done k y)) in
         let w = within y lt here in
         omega (arith, l, w)
     by true same is =

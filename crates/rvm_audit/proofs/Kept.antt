@@ -117,7 +117,7 @@ module _ (j : Journals) (is_cut : ℕ → Bool) where
           ended =
               sym (append-nil (entries_at is.from kept))
               ∙ ap (λ xs. entries_at is.from kept ++ xs) (sym (ap (λ k. take k (entries_at is.from ((x, n) ∷ ss))) o.0
-                  ∙ take_none (entries_at is.from ((x, n) ∷ ss))))
+              ∙ take_none (entries_at is.from ((x, n) ∷ ss))))
               ∙ keeps.entries is.from lt;
         })
 
@@ -127,7 +127,7 @@ module _ (j : Journals) (is_cut : ℕ → Bool) where
       entries = λ y y_lt.
           ap (λ xs. xs ++ take (put left x q y) (entries_at y ss)) (entries_append y kept ((x, n) ∷ []))
           ∙ kept_next (y == x) (left y) q n (entries_at y kept) (entries_at y ss) (j.entries y) (own y (suc q) more)
-              (keeps.entries y y_lt);
+          (keeps.entries y y_lt);
       whole = λ y y_lt not_cut. whole_next (y == x) (left y) q n (entries_at y ss) (own y (suc q) more)
           (keeps.whole y y_lt not_cut);
       all = all_snoc j is_cut kept x n makes.there (explained e n.event refl makes.event) keeps.all;
@@ -174,7 +174,7 @@ module _ (j : Journals) (is_cut : ℕ → Bool) where
     record {
       entries = λ y lt.
           sym (append-nil (entries_at y kept)) ∙ ap (λ xs. entries_at y kept ++ xs) (sym (nothing (left y)))
-              ∙ keeps.entries y lt;
+          ∙ keeps.entries y lt;
       all = keeps.all;
     },
   )
@@ -200,7 +200,7 @@ completion_explains j k is_cut es c o =
     (record {
       entries = λ y lt.
           ap (take (length (j.entries y))) (entries y lt ∙ (c.goes_on y lt).1)
-              ∙ take_first (j.entries y) (c.goes_on y lt).0;
+          ∙ take_first (j.entries y) (c.goes_on y lt).0;
       whole = λ y lt not_cut. ap (λ (xs : List PlainEntry). length xs) (sym (entries y lt ∙ c.ends y lt not_cut));
       all = record { there = λ i s at. absurd cc; explained = λ i s at. absurd cc };
       made = λ y i bytes lt at. absurd cc;

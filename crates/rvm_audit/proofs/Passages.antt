@@ -47,7 +47,7 @@ known_next x None place made p q known own = record {
       (f.0, get_front made [] f.0 (y, bytes) f.1));
   all = λ y bytes k is at.
       known.all y bytes k (ap (λ (o : Option ℕ). is_some o) (sym (own (y ∷ bytes)))
-          ∙ is) (get_nothing made k (y, bytes) at);
+      ∙ is) (get_nothing made k (y, bytes) at);
 }
 known_next x (Some new) place made p q known own = record {
   found = λ y bytes is.
@@ -225,7 +225,7 @@ module _ (j : Journals) (is_cut : ℕ → Bool) (at : ℕ → ℕ) (made : Place
     waits_for : (x from : ℕ) (frame : Frame) (bytes : List ℕ) (e : HostEvent)
         → MayNotPass (j.openings.host x).version j.openings.count x made spent e → e ≡ Came from frame
         → is_there x j.openings.count from ≡ true → HasBytes (j.openings.host x).version from x frame bytes
-            → members from ≡ true
+        → members from ≡ true
     waits_for x from frame bytes e never is other has =
         let n = subst (MayNotPass (j.openings.host x).version j.openings.count x made spent) is never in
         ap not (n bytes other has).0

@@ -85,8 +85,11 @@ module _ (j : Journals) (is_cut : ℕ → Bool) (x : ℕ) (lt : x < j.openings.c
 pub steps_passed : (version count x : ℕ) (item : ItemRef) (s : StepRow) (row : Row) (old : Known) → item ≡ Steps s
     → row.entries ≡ s.count → ItemPasses version count x item row old old
 steps_passed version count x item s row old is n_is =
-    subst (λ i. ItemPasses version count x i row old old) (sym is) (n_is
-        ∙ sym (steps_length s.turn s.harts s.count), refl)
+    subst (λ i. ItemPasses version count x i row old old) (sym is) (
+      n_is
+          ∙ sym (steps_length s.turn s.harts s.count),
+      refl,
+    )
 
 pub rounds_passed : (version count x : ℕ) (item : ItemRef) (r : RoundRow) (row : Row) (old : Known) → item ≡ Rounds r
     → row.entries ≡ r.count * (r.steps + 1) → ItemPasses version count x item row old old
@@ -115,7 +118,7 @@ module _ (version count x : ℕ) (old new : Known) where
       → (key : List ℕ) → places_of new.made key ≡ places_of old.made key
   same_made (Entry e) row t is key =
       t.made key ∙ ap (λ o. noted (key_of x o) 0 (places_of old.made) key)
-          (no_frame e.now.frame row.is_silent t.silent is)
+      (no_frame e.now.frame row.is_silent t.silent is)
   same_made (Steps s) row t is key = ap (λ (k : Known). places_of k.made key) t.1
   same_made (Rounds r) row t is key = ap (λ (k : Known). places_of k.made key) t.1
 
@@ -221,7 +224,7 @@ module _ (parts : List Part) (cuts : List Bool) (places : List Place) (old new :
     no_entries =
         let left : length (drop place.entries (entries_in part)) ≡ 0 =
         ap (λ (xs : List PlainEntry). length xs) (sym is_at.left
-            ∙ ap all_of (nothing_left part.items.now place.items none))
+        ∙ ap all_of (nothing_left part.items.now place.items none))
         in
         omega (arith, length-drop place.entries (entries_in part), left)
       where
@@ -249,7 +252,7 @@ module _ (parts : List Part) (cuts : List Bool) (places : List Place) (old new :
           (let is_of = are.each host part turn.here in
           let m = turn.passing.passage j are in
           let within = m.within host (let c = are.count_is in let t = there parts places host part place one in omega
-              (arith, c, t)) in
+          (arith, c, t)) in
           let entries = ap (λ (xs : List PlainEntry). length xs) is_of.entries_are in
           let at : taken places host ≡ place.entries = ap (λ (k : Place). k.entries) (sym turn.place_is) in
           let all = no_entries in
@@ -327,7 +330,7 @@ module _ (parts : List Part) (cuts : List Bool) (places : List Place) (old new :
         long = as_long parts places host part place one row.entries (entries_at item) is_next.rest is_next.split size;
         spent =
             ap (λ s. length s.items) (same_spent part.version (length parts) host old new item row t)
-                ∙ turn.passing.spent;
+            ∙ turn.passing.spent;
         each = at_each parts places host part place one row.entries (entries_at item) is_next.rest is_next.split size;
         passage = passage;
       }
@@ -337,7 +340,7 @@ module _ (parts : List Part) (cuts : List Bool) (places : List Place) (old new :
       silent is = λ x other lt at.
           subst (λ (k : Place). Blocked new other x k.entries)
           (sym (other_place parts places host part place one row.entries
-              (entries_at item) is_next.rest is_next.split size x
+          (entries_at item) is_next.rest is_next.split size x
           (λ same. omega (arith, same, lt))))
           (subst (λ s. IsBlocked other.version (length parts) x (places_of new.made) (marked s.items) (marked cuts x)
           (entries_in other) (taken places x)) (sym (same_spent part.version (length parts) host old new item row t))
@@ -394,7 +397,7 @@ pub has_passed : (parts : List Part) (cuts : List Bool) (places : List Place) (k
     → (j : Journals) → AreOf j parts → HasPassed j (marked cuts) (taken places)
 has_passed parts cuts places known n passing all le j are =
     passed j (marked cuts) (taken places) (places_of known.made) (marked known.spent.items)
-        (passing.passage j are) blocked
+    (passing.passage j are) blocked
   where
     blocked : (x : ℕ) → x < j.openings.count
         → IsBlocked (j.openings.host x).version j.openings.count x (places_of known.made) (marked known.spent.items)
@@ -409,6 +412,6 @@ has_passed parts cuts places known n passing all le j are =
         (subst (λ k. IsBlocked part.0.version k x (places_of known.made) (marked known.spent.items) (marked cuts x)
         (j.entries x) (taken places x)) (sym are.count_is)
         (subst (λ xs. IsBlocked part.0.version (length parts) x (places_of known.made) (marked known.spent.items)
-            (marked cuts x)
+        (marked cuts x)
         xs (taken places x)) is_of.entries_are
         (all x part.0 (omega (arith, there, le)) part.1)))

@@ -14,9 +14,10 @@ use std::alloc::{AllocError, Global};
 /// they have no order, however these went on. If they do not, all their entries stand in one sequence in which each
 /// frame that came was made before, or by an entry that may be among those that were lost.
 ///
-/// It takes each journal as far as it can go. An entry that says that a frame came is passed once its maker has made
-/// the frame, or is at the end of a journal that was cut. The journals contradict one another if one of them cannot be
-/// taken to its end.
+/// It takes each journal as far as it can go. An entry that says that a frame came is passed once the host that it came
+/// from has made the frame, or has a journal that was cut and is at its end. The journals contradict one another if one
+/// of them cannot be taken to its end so. It needs time for each item, however many entries that has, and keeps the
+/// frames that were made, but no events.
 pub fn are_contradictory<M: PagedMemory + Drop>(
     alloc: Global,
     journals: &[&Journal<M>],

@@ -1,10 +1,11 @@
 //! Puts the journals of the hosts of one world in order: one list of the world's events, which gives each host the
 //! replies that its journal keeps. Any sequence of what the hosts did, each by itself, is a run of one world if each
-//! frame that came was made before, so the guest of all of them never moved.
+//! frame that came was made before, so the guest of all of them never moved. Of journals whose last entries are missing
+//! it says whether they contradict one another.
 //!
 //! Stands on `rvm_recorder` for journals, on the events of `rvm_core`, and on `rvm_frame` for the bytes of frames. It
 //! must not know threads or locks. The laws of any number of hosts know no code: their definitions are in `specs/`, in
-//! Hosts, Orders and Worlds.
+//! Hosts, Orders, Worlds and Cuts.
 //!
 //! To be read in this order: `laws`; `error`, `places`, `frames`, `placed`, `part`, `merge`, `merging`, `order`, `list`,
 //! `known`, `passing`, `cuts`, `lines`.
