@@ -1,7 +1,8 @@
 -- The host of a journal did again what the journal tells, or the journal was refused.
-use Rattle.std.proofs.Common.{◌≡◌, ◌∙◌, ℕ, Bool, true, false, List, [], ◌++◌, Option, None, Some, inl, inr, sym, ap, subst, arith}
+use Rattle.std.proofs.Common.{◌≡◌, ◌∙◌, ℕ, Bool, true, false, List, [], ◌++◌, Option, None, Some, inr, refl, sym, ap, subst, arith}
 use Rattle.std.proofs.lemmas.Bool.Decides.{nat_tests}
 use Rattle.std.proofs.lemmas.Result.{IfOk-weaker}
+use Rattle.std.specs.Io.KnownBytes.{Appends}
 use Rattle.std.specs.Prelude.{Result, Ok, Err, IfErr, IfOk}
 use Rattle.rvm_board.specs.Guest.{Guest, GuestState}
 use Rattle.rvm_command.specs.Refusals.{IsTold, refused}
@@ -16,14 +17,14 @@ use Rattle.rvm_host_command.specs.declared.journal_file.FileFault.{FileFault}
 use Rattle.rvm_host_command.specs.declared.journal_file.FileFault.TheVariants as fault
 use Rattle.rvm_host_command.specs.FileFaults.{IsFileFault, IsGuestFault}
 use Rattle.rvm_host_command.specs.Journals.{IsGuestNamed, IsHostAfter}
-use Rattle.rvm_host_command.specs.Replays.{HasAnswered, IsAnswered, IsNoSession, IsNotShown, IsReplay, IsShown, IsShownAgain, IsUnanswered, guest_after}
+use Rattle.rvm_host_command.specs.Replays.{HasAnswered, IsAnswered, IsNoSession, IsNotShown, IsReplay, IsShown, IsShownAgain, IsUnanswered, guest_after, no_guest_line}
 
 -- a host of each header has numbers within their limits
 sized : (h : Header) → IsRanged h → is_sized h.host h.hosts 4096 3 ≡ true
 sized h range = grind (arith, nat_tests)
 
 pub not_opened : (h : Header) (P : Type 0) → IsRanged h → is_sized h.host h.hosts 4096 3 ≡ false → P
-not_opened h P range no = let both : true ≡ false = sym (sized h range) ∙ no in cc
+not_opened h P range outside = let both : true ≡ false = sym (sized h range) ∙ outside in cc
 
 -- what is wrong with the file of an image is wrong with the journal
 pub guest_fault : (why : FileFault) (most : Option ℕ) (h : Header) (bytes image : List ℕ) → IsGuestFault why h.guest image
@@ -103,3 +104,11 @@ module _ (most : Option ℕ) (journal image : List ℕ) where
         → IsUnanswered name (guest_after recording) (count_of recording) session before after errors_before errors_after)
         (λ s. s ≡ 1 → IsNoSession name most journal image session before after errors_before errors_after)
         (λ s unanswered is. inr (record { recording = recording; replay = replay; unanswered = unanswered is }))
+
+-- no guest is at a host, which was reported
+pub nobody_here : (name : List ℕ) (guest : Option Guest) (n count : ℕ) (session same errors_before errors_after : Option (List ℕ))
+    → None ≡ guest → n ≡ count → Appends errors_before errors_after (no_guest_line name n)
+    → IsUnanswered name guest count session same same errors_before errors_after
+nobody_here name None n count session same errors_before errors_after none is reported =
+    (refl, subst (λ k. Appends errors_before errors_after (no_guest_line name k)) is reported)
+nobody_here name (Some g) n count session same errors_before errors_after none is reported = cc

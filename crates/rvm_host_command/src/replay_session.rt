@@ -1,10 +1,11 @@
 //! `rvmove replay` with a script: a session of the debugger with the guest that is at the host of a journal after what it did.
 
-ghost use Rattle.std.specs.Prelude.{◌≡◌, ◌⊎◌, IfOk, OnErr, Some};
+ghost use Rattle.std.specs.Prelude.{◌≡◌, ◌⊎◌, IfOk, OnErr, OnOk, Some};
 ghost use Rattle.std.specs.Io.Buffered.{writer_contents};
+ghost use Rattle.std.specs.Io.KnownBytes.{Appends};
 ghost use Rattle.rvm_command.specs.Flushed.{is_flushed};
 ghost use Rattle.rvm_recorder.specs.History.{count_of};
-ghost use Rattle.rvm_host_command.specs.Replays.{HasAnswerStatus, HasAnswered, HasSessionStatus, IsAnswered, IsNoSession, IsSessionRefused, IsUnanswered, IsUntold, guest_after};
+ghost use Rattle.rvm_host_command.specs.Replays.{HasAnswerStatus, HasAnswered, HasSessionStatus, IsAnswered, IsNoSession, IsSessionRefused, IsUnanswered, IsUntold, guest_after, no_guest_line};
 
 use crate::journal_hosts::host_of_journal;
 use crate::journal_report::report_fault;
@@ -81,10 +82,18 @@ fn session_at<M: PagedMemory + Drop, R: Read, O: Write + Drop, E: Write>(
     match recorded.into_guest() {
         Some(guest) => session_of(alloc, guest, reader, output, errors),
         None => {
-            writeln!(errors, "{name}: no guest is here after {count} events")?;
+            report_no_guest(name, count, errors)?;
             Ok(1)
         }
     }
+}
+
+/// Reports that no guest is at a host after this many events.
+fn report_no_guest<E: Write>(name: &str, count: u32, errors: &mut E) -> Result<(), LinkFault>
+    ensures { OnOk result (Appends (E.contents errors.old) (E.contents errors.new) (no_guest_line name.now count)) }
+{
+    writeln!(errors, "{name}: no guest is here after {count} events")?;
+    Ok(())
 }
 
 /// Answers a session for a guest, or reports why it is refused. Returns the status.
