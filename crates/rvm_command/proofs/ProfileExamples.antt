@@ -1,6 +1,6 @@
 -- Known profiles: what the lines of a file of symbols tell, which lines are refused, and which steps count for which
 -- symbol.
-use Rattle.std.proofs.Common.{◌≡◌, ◌∷◌, ◌++◌, ℕ, List, [], Option, None, Some, refl, codes}
+use Rattle.std.proofs.Common.{◌≡◌, ◌∷◌, ℕ, List, [], Option, None, Some, refl, codes}
 use Rattle.std.specs.Fmt.{digits}
 use Rattle.rvm_board.specs.Board.{at_reset}
 use Rattle.rvm_board.specs.Guest.{Guest, fresh}

@@ -1,9 +1,8 @@
 -- How many steps ran the words of a symbol, by the numbers of words.
-use Rattle.std.proofs.Common.{◌≡◌, ◌⊎◌, ℕ, zero, suc, ◌+◌, ◌-◌, ◌*◌, ◌/◌, ◌%◌, ◌<◌, ◌≤◌, List, [], ◌∷◌, ◌++◌, Option, None, Some, length, take, drop, get_or, Bool, true, false, refl, sym, ap, subst, ◌∙◌, inl, inr, arith, cond, nat_eq, nat_lt, nat_le, append_assoc, length-drop}
+use Rattle.std.proofs.Common.{◌≡◌, ◌⊎◌, ℕ, zero, suc, ◌+◌, ◌-◌, ◌*◌, ◌%◌, ◌<◌, ◌≤◌, List, [], ◌∷◌, ◌++◌, Option, None, Some, length, take, drop, get_or, Bool, true, false, refl, sym, ap, ◌∙◌, inl, inr, arith, cond, nat_eq, nat_lt, nat_le, length-drop}
 use Rattle.std.proofs.lemmas.Bool.{and_from, and_parts, cases_eq, cases_lt, eq-eqb, eqb-true, le-leb, leb-true, lt-ltb, ltb-true, ne_eqb}
-use Rattle.std.proofs.lemmas.List.{drop_more, drop_all}
 use Rattle.std.proofs.lemmas.List.Sums.{sum_by-cons, sum_by_more}
-use Rattle.std.specs.Prelude.{MatchOption, count_by, min, sum, option_map, ◌&&◌, ◌==◌}
+use Rattle.std.specs.Prelude.{MatchOption, count_by, sum, option_map, ◌&&◌, ◌==◌}
 use Rattle.rvm_board.specs.Events.{pc_of}
 use Rattle.rvm_hart.specs.Bus.{ram_base}
 use Rattle.rvm_command.specs.Counting.{AreRuns, places_before, places_until, sum_between}

@@ -12,8 +12,8 @@ abbrev pub symbol_at : (address : Option ℕ) → (name : List ℕ) → Told
 symbol_at None name = Fault
 symbol_at (Some a) name = told.Symbol (record { address = a; name = name })
 
--- what the words of a line tell: `80000000 T _start` a symbol, and `U foo` nothing, nor does a line of no words; no other
--- line stands in such a file
+-- what the words of a line tell: `80000000 T _start` a symbol, and `U foo` nothing, nor does a line of no words; no
+-- other line stands in such a file
 abbrev pub told_by : (words : List (List ℕ)) → Told
 told_by [] = Nothing
 told_by (word ∷ []) = Fault

@@ -1,8 +1,8 @@
 //! What is reported of a run once it has ended.
 //!
 //! A signature has a line for each word of a range of RAM, as the run left it: its eight hexadecimal digits, in lower case.
-//! A coverage has the lines that `rvmove dis` lists of the image, each after a number: how often that word ran. A profile
-//! has a line for each symbol of a file: how many steps ran a word of it, and its name.
+//! A coverage has the lines that `rvmove dis` lists of the image, each after a number: how often that word ran. A
+//! profile has a line for each symbol of a file: how many steps ran a word of it, and its name.
 
 ghost use Rattle.std.specs.Prelude.{◌≡◌, OnErr, OnOk};
 ghost use Rattle.std.specs.Io.KnownBytes.{Appends};

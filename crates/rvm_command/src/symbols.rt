@@ -87,8 +87,8 @@ fn first_symbol<'a>(file: &'a [u8]) -> (Option<Symbol<'a>>, &'a [u8])
     (None, rest)
 }
 
-/// Refuses a file of symbols with `BadToken` at its first line that is no line of such a file, or whose symbol has a lower
-/// address than the one before it.
+/// Refuses a file of symbols with `BadToken` at its first line that is no line of such a file, or whose symbol has a
+/// lower address than the one before it.
 pub fn check_symbols(file: &[u8]) -> Result<(), Refused>
     ensures good { OnOk result (refused_line file.now ≡ None) }
     ensures refused { IfErr result (IsSymbolRefusal file.now) }
