@@ -21,8 +21,8 @@ use std::io::Write;
 /// after the one that tells the last of them.
 ///
 /// Returns the status: 0 if all of it was done, and then `errors` gets `replayed N events`; 1 if the journal is refused,
-/// for its header, its image or a line that is looked at, or if a write to `output` fails, and then `errors` says why. The
-/// error `LinkFault` says that a write to `errors` failed.
+/// for its header, its image or a line that is looked at, or if a write to `output` fails, and then `errors` says why.
+/// The error `LinkFault` says that a write to `errors` failed.
 pub fn replay_command<M: PagedMemory + Drop, O: Write, E: Write>(
     alloc: Global,
     name: &str,

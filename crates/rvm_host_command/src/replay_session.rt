@@ -1,4 +1,5 @@
-//! `rvmove replay` with a script: a session of the debugger with the guest that is at the host of a journal after what it did.
+//! `rvmove replay` with a script: a session of the debugger with the guest that is at the host of a journal after what
+//! the host did.
 
 ghost use Rattle.std.specs.Prelude.{◌≡◌, ◌⊎◌, IfOk, OnErr, OnOk, Some};
 ghost use Rattle.std.specs.Io.Buffered.{writer_contents};
@@ -18,14 +19,14 @@ use rvm_refusal::LinkFault;
 use std::alloc::Global;
 use std::io::{BufWriter, Read, Write};
 
-/// Makes the host of a journal anew, has it do again what the journal tells, or only the first `until` events, and hands the
-/// guest that is then at the host to the debugger: does what each line of the extended session in `reader` asks for, and
-/// writes the answers to `output`. What the guest sent before is not written. `name` is the journal's file; `image` is the
-/// file of the image with which the host began, and is not used if it began without a guest.
+/// Makes the host of a journal anew, has it do again what the journal tells, or only the first `until` events, and hands
+/// the guest that is then at the host to the debugger: does what each line of the extended session in `reader` asks for,
+/// and writes the answers to `output`. What the guest sent before is not written. `name` is the journal's file; `image`
+/// is the file of the image with which the host began, and is not used if it began without a guest.
 ///
 /// Returns the status: 0 if all lines were answered, and then `output` is flushed, and `errors` gets nothing; 1 if the
-/// journal is refused, if no guest is at the host, if the session is refused, or if a read or a write to `output` fails, and
-/// then `errors` says why. The error `LinkFault` says that a write to `errors` failed.
+/// journal is refused, if no guest is at the host, if the session is refused, or if a read or a write to `output` fails,
+/// and then `errors` says why. The error `LinkFault` says that a write to `errors` failed.
 pub fn replay_session<M: PagedMemory + Drop, R: Read, O: Write + Drop, E: Write>(
     alloc: Global,
     name: &str,

@@ -1,20 +1,19 @@
 -- A line is added to the file of a journal.
-use Rattle.std.proofs.Common.{◌≡◌, ◌∙◌, ℕ, Bool, true, false, cond, List, [], ◌∷◌, ◌++◌, length, take, drop, Option, Some, None, option_map, refl, sym, ap, subst, append_assoc, arith}
+use Rattle.std.proofs.Common.{◌≡◌, ◌∙◌, ℕ, Bool, true, false, cond, List, [], ◌∷◌, ◌++◌, length, take, Option, Some, None, option_map, refl, sym, ap, subst, append_assoc, arith}
 use Rattle.std.specs.Option.{option_and_then}
 use Rattle.std.specs.Prelude.{codes}
 use Rattle.std.specs.List.{list_all}
 use Rattle.std.specs.Str.{bytes_eq}
-use Rattle.std.specs.Io.KnownBytes.{Appends}
 use Rattle.std.proofs.lemmas.Bool.Decides.{nat_tests}
 use Rattle.std.proofs.lemmas.List.{drop_at, take_at}
 use Rattle.rvm_debug.specs.Words.{lines}
 use Rattle.rvm_message.specs.declared.event.HostEvent.{HostEvent}
 use Rattle.rvm_journal.specs.declared.noted.Noted.{Noted}
 use Rattle.rvm_journal.specs.Noting.{events_of, noted_of}
-use Rattle.rvm_journal.specs.Told.{Told, at_header, digest_after, digest_behind, header_told, line_of, mark, marked, no_digest, text_in, told_by, told_from, told_in, told_of}
+use Rattle.rvm_journal.specs.Told.{Told, at_header, digest_after, digest_behind, header_told, mark, marked, no_digest, text_in, told_by, told_from, told_in, told_of}
 use Rattle.rvm_journal.specs.Written.{IsFile, IsTelling, IsWritten, Puts, is_empty, is_no_feed, told_at, with_more}
 use Rattle.rvm_cell.specs.Logs.{IsEmpty}
-use Rattle.rvm_journal.proofs.Lines.{alone, no_lines, one_line}
+use Rattle.rvm_journal.proofs.Lines.{alone, one_line}
 
 some_told : (o : Option Told) → option_and_then (λ u. Some u) o ≡ o
 some_told None = refl

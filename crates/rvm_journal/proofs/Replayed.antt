@@ -1,5 +1,5 @@
 -- Lines of a journal are done one after the other, by a recorded host.
-use Rattle.std.proofs.Common.{◌≡◌, ◌∙◌, ℕ, zero, suc, ◌+◌, ◌-◌, ◌%◌, ◌<◌, ◌≤◌, min, Bool, true, false, cond, ◌&&◌, List, [], ◌∷◌, ◌++◌, length, map, take, drop, Option, Some, None, Result, Ok, Err, option_map, refl, sym, ap, subst, append_assoc, arith, length-append, inl, inr, ◌⊎◌, ◌==◌}
+use Rattle.std.proofs.Common.{◌≡◌, ◌∙◌, ℕ, zero, suc, ◌+◌, ◌-◌, ◌%◌, ◌≤◌, min, Bool, true, false, cond, ◌&&◌, List, [], ◌∷◌, ◌++◌, length, take, drop, Option, Some, None, Result, Ok, Err, option_map, refl, sym, ap, subst, append_assoc, arith, length-append, inl, inr, ◌⊎◌, ◌==◌}
 use native.Mathlib.Nat.{mod-add-mod}
 use Rattle.std.specs.Option.{option_and_then}
 use Rattle.std.specs.Prelude.{IfErr, IsErrAnd, codes, nat_le, nat_lt, slice_get}
@@ -25,13 +25,13 @@ use Rattle.rvm_recorder.specs.declared.error.RecordError.{RecordError}
 use Rattle.rvm_recorder.specs.declared.error.RecordError.TheVariants as record_error
 use Rattle.rvm_recorder.specs.Entries.{PlainEntry}
 use Rattle.rvm_recorder.specs.History.{Recording, count_of, with_entries, with_room}
-use Rattle.rvm_recorder.specs.Slices.{IsSlice, IsSliceRecorded, most_of, step_of}
+use Rattle.rvm_recorder.specs.Slices.{IsSliceRecorded, most_of, step_of}
 use Rattle.rvm_journal.specs.declared.noted.Noted.{Noted}
 use Rattle.rvm_journal.specs.declared.noted.Noted.TheVariants.{Turns, Command as Commanded, Came, End}
 use Rattle.rvm_journal.specs.declared.replay.JournalFault.{JournalFault}
 use Rattle.rvm_journal.specs.declared.replay.JournalFault.TheVariants as fault
 use Rattle.rvm_journal.specs.Headers.{first_header, header_at, header_in_line}
-use Rattle.rvm_journal.specs.Noting.{bytes_noted, came_noted, command_in, end_noted, events_of, frame_noted, noted_by, noted_of, run_if, run_of, turns_noted}
+use Rattle.rvm_journal.specs.Noting.{bytes_noted, came_noted, command_in, end_noted, events_of, frame_noted, noted_by, noted_of, run_if, turns_noted}
 use Rattle.rvm_journal.specs.Replaying.{AreFewer, HasHarts, HasMore, IsJournalFault, IsLineFault, IsReplayedTo, IsRoomFault, IsSpent, IsWanted, LacksHeader, LacksRoom, Records, events_in, first_of, left_of, noted_at, room_of}
 use Rattle.rvm_journal.specs.Told.{Told, at_header, digest_after, digest_behind, header_told, mark, no_digest, text_in, told_by, told_in, told_of}
 use Rattle.rvm_journal.proofs.Adding.{behind_header, one_told}
@@ -138,8 +138,13 @@ then_recorded a b c es fs first more = record {
 longer : (a b : Recording) (es : List HostEvent) → Records a es b → count_of b ≡ count_of a + length es
 longer a b es so =
     let all : length (events_in b.journal.entries) ≡ length (events_in a.journal.entries ++ es) = ap length so.events in
-    omega (arith, all, length-append (events_in a.journal.entries) es, length-map a.journal.entries (λ (x : PlainEntry). x.event),
-    length-map b.journal.entries (λ (x : PlainEntry). x.event))
+    omega (
+      arith,
+      all,
+      length-append (events_in a.journal.entries) es,
+      length-map a.journal.entries (λ (x : PlainEntry). x.event),
+      length-map b.journal.entries (λ (x : PlainEntry). x.event),
+    )
 
 pub more_recorded : (a b c : Recording) (es : List HostEvent) → Records a es b → HasMore b c → HasMore a c
 more_recorded a b c es first more = (es ++ more.0, then_recorded a b c es more.0 first more.1)

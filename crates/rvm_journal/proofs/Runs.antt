@@ -1,5 +1,5 @@
 -- Turns of harts, by the hart of the first turn.
-use Rattle.std.proofs.Common.{◌≡◌, ◌∙◌, ℕ, zero, suc, ◌+◌, ◌%◌, min, List, [], ◌∷◌, ◌++◌, length, take, Option, None, Some, refl, sym, ap, subst, arith}
+use Rattle.std.proofs.Common.{◌≡◌, ◌∙◌, ℕ, zero, suc, ◌+◌, ◌%◌, min, List, ◌∷◌, ◌++◌, length, take, Option, None, Some, refl, sym, ap, arith}
 use Rattle.std.proofs.lemmas.List.{append-nil}
 use native.Mathlib.Nat.{add-mod, mod-add-mod}
 use Rattle.rvm_message.specs.declared.event.HostEvent.{HostEvent}

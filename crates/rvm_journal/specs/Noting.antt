@@ -1,6 +1,5 @@
 -- What the text of a line of a journal tells, without the digest before it and without the line feed.
 use Rattle.std.specs.Prelude.{ℕ, ◌-◌, ◌==◌, ◌&&◌, nat_le, nat_lt, if◌then◌else◌, List, [], ◌∷◌, Option, Some, None, Result, Ok, Err, codes, option_map}
-use Rattle.std.specs.Option.{option_and_then}
 use Rattle.std.specs.Str.{bytes_eq}
 use Rattle.hex.specs.Hex.{decode_of}
 use Rattle.hex.specs.declared.error.FromHexError.{FromHexError}
@@ -8,7 +7,7 @@ use Rattle.rvm_board.specs.declared.event.BoardEvent.{BoardEvent}
 use Rattle.rvm_board.specs.declared.event.BoardEvent.TheVariants as board
 use Rattle.rvm_debug.specs.declared.line.Line.{Line}
 use Rattle.rvm_debug.specs.declared.line.Line.TheVariants as guest
-use Rattle.rvm_debug.specs.Lines.{numeral, one_number, only}
+use Rattle.rvm_debug.specs.Lines.{numeral}
 use Rattle.rvm_debug.specs.Words.{words}
 use Rattle.rvm_frame.specs.declared.fault.ReadFault.{ReadFault}
 use Rattle.rvm_frame.specs.Grammar.{Received}

@@ -12,8 +12,8 @@ use Rattle.rvm_journal.specs.declared.noted.Noted.{Noted}
 use Rattle.rvm_journal.specs.declared.noted.Noted.TheVariants.{Turns, Command as Commanded, Came, End}
 use Rattle.rvm_journal.specs.declared.replay.JournalFault.{JournalFault}
 use Rattle.rvm_journal.specs.declared.replay.JournalFault.TheVariants.{BadLine, TooLong, OutOfMemory}
-use Rattle.rvm_journal.specs.Noting.{events_of, noted_of}
-use Rattle.rvm_journal.specs.Told.{Told, digest_behind, header_told, mark, text_in, told_by, told_in, told_of}
+use Rattle.rvm_journal.specs.Noting.{noted_of}
+use Rattle.rvm_journal.specs.Told.{Told, header_told, mark, text_in, told_by, told_in, told_of}
 
 -- the events of entries
 abbrev pub events_in : List PlainEntry → List HostEvent

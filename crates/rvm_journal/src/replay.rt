@@ -51,13 +51,13 @@ impl fmt::Display for JournalFault {
     }
 }
 
-/// Has a recorded host do what the journal of host `host` of this many hosts tells, which has these bytes: the events that
-/// the lines after the first tell, which is the header's, in order, up to `most` of them, or all. No line is looked at after
-/// these events, and the last line that is looked at may tell more of them.
+/// Has a recorded host do what the journal of host `host` of this many hosts tells, which has these bytes: the events
+/// that the lines after the first tell, which is the header's, in order, up to `most` of them, or all. No line is looked
+/// at after these events, and the last line that is looked at may tell more of them.
 ///
-/// Fails with `BadLine` at the first line that does not show the digest of all lines up to it, or whose text tells nothing;
-/// with `TooLong` if the recorder takes no more entries; with `OutOfMemory` if memory runs out. What the lines before tell
-/// has been recorded then.
+/// Fails with `BadLine` at the first line that does not show the digest of all lines up to it, or whose text tells
+/// nothing; with `TooLong` if the recorder takes no more entries; with `OutOfMemory` if memory runs out. What the lines
+/// before tell has been recorded then.
 pub fn replay_journal<M: PagedMemory + Drop>(
     alloc: Global,
     hosts: u8,
@@ -221,8 +221,8 @@ fn text_in(line: &[u8]) -> &[u8]
     &line[line.len().min(MARK)..]
 }
 
-/// Has a recorded host do the events that a line tells, up to as many as are wanted, one or more, or all. Returns how many
-/// are wanted after the line.
+/// Has a recorded host do the events that a line tells, up to as many as are wanted, one or more, or all. Returns how
+/// many are wanted after the line.
 fn do_first<M: PagedMemory + Drop>(
     alloc: Global,
     noted: Noted,
