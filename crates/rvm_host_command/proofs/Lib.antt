@@ -13,6 +13,7 @@ mod SummaryLines
 pub mod OneWorld
 mod Showing
 mod Replayed
+mod UntoldReplays
 pub mod Walks
 pub mod Law
 mod WorkedProcesses
