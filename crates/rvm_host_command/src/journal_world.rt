@@ -16,6 +16,7 @@ use std::alloc::Global;
 /// Makes the hosts of the world whose journals these are, in order, and has each do what its journal tells; a host
 /// without a journal does nothing. Fails if the journals are not those of hosts of one world, if one of them is refused,
 /// or if memory runs out.
+#[tactic(auto, using(crate::proofs::JournalFaults::of_headers))]
 pub(crate) fn replay_all<M: PagedMemory + Drop>(
     alloc: Global,
     files: &[JournalFile<'_>],
@@ -37,7 +38,7 @@ pub(crate) fn replay_all<M: PagedMemory + Drop>(
 }
 
 /// Makes the hosts of a world that has this many, in order, and has each do what its journal tells.
-#[tactic(auto, using(crate::proofs::AllHosts::none_done))]
+#[tactic(auto, using(crate::proofs::AllHosts::none_done, crate::proofs::JournalFaults::of_memory))]
 fn replay_each<M: PagedMemory + Drop>(
     alloc: Global,
     files: &[JournalFile<'_>],
@@ -73,6 +74,7 @@ fn keep<M: PagedMemory + Drop>(
 }
 
 /// Makes a host, and has it do what its journal tells, if it has one.
+#[tactic(auto, using(crate::proofs::JournalFaults::of_headers))]
 fn replay_host<M: PagedMemory + Drop>(
     alloc: Global,
     files: &[JournalFile<'_>],
@@ -92,6 +94,7 @@ fn replay_host<M: PagedMemory + Drop>(
 }
 
 /// Makes a host that does nothing.
+#[tactic(auto, using(crate::proofs::JournalFaults::never))]
 fn idle_host<M: PagedMemory + Drop>(alloc: Global, hosts: u8, host: u8) -> Recorded<M>
     requires hosts { (2 ≤ hosts) × (hosts ≤ 8) }
     requires host { host < hosts }
@@ -104,6 +107,7 @@ fn idle_host<M: PagedMemory + Drop>(alloc: Global, hosts: u8, host: u8) -> Recor
 }
 
 /// Makes the host of the journal with this index, and has it do what the journal tells.
+#[tactic(auto, using(crate::proofs::JournalFaults::of_headers, crate::proofs::JournalFaults::refused_at))]
 fn replay_file<M: PagedMemory + Drop>(
     alloc: Global,
     files: &[JournalFile<'_>],

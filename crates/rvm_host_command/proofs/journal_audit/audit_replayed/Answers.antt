@@ -1,15 +1,18 @@
-use Rattle.std.proofs.Common.{subst}
+use Rattle.std.proofs.Common.{refl}
 use Rattle.std.specs.Io.Buffered.{writer_contents}
-use Rattle.rvm_audit.specs.Audits.{IsAudit}
-use Rattle.rvm_host_command.specs.Audited.{journals_in}
-use Rattle.rvm_host_command.proofs.HostJournals.{ordered_if, told_if}
+use Rattle.rvm_audit.specs.Parts.{taken}
+use Rattle.rvm_host_command.proofs.AuditEnds.{memory_untold, out_of_memory, refuted, refuted_untold, undecided, undecided_untold}
+use Rattle.rvm_host_command.proofs.UntoldReplays.{on_error}
 use Rattle.rvm_host_command.proofs.journal_audit.audit_replayed.Goals as goal
 
-pub returns-in-Ok-Order-clause-order : goal.returns-in-Ok-Order-clause-order
-returns-in-Ok-Order-clause-order g c =
-    ordered_if c.write_audit.result c.args.text c.args.all.now c.in-Ok-Order.order
-    (writer_contents g.O.Write.contents c.args.output.now) (writer_contents g.O.Write.contents c.write_audit.new.output)
-    (subst (IsAudit (journals_in c.args.all.now)) c.in-Ok-Order.field-0-is c.in-Ok-Order.ensures) c.write_audit.ensures.written
+pub returns-in-Ok-InOrder-clause-status : goal.returns-in-Ok-InOrder-clause-status
+returns-in-Ok-InOrder-clause-status g c = c.write_audit.ensures.status c.args.files.now
 
-pub returns-in-Ok-Order-clause-none : goal.returns-in-Ok-Order-clause-none
-returns-in-Ok-Order-clause-none g c = told_if c.write_audit.result _ _ c.write_audit.ensures.failed
+pub returns-in-Ok-InOrder-clause-untold : goal.returns-in-Ok-InOrder-clause-untold
+returns-in-Ok-InOrder-clause-untold g c = c.write_audit.ensures.untold c.args.files.now
+
+pub returns-in_err-tell_places-in-Ok-Contradicted-clause-untold : goal.returns-in_err-tell_places-in-Ok-Contradicted-clause-untold
+returns-in_err-tell_places-in-Ok-Contradicted-clause-untold g c =
+    let out = writer_contents g.O.Write.contents c.args.output.now in
+    on_error c.from_residual.result _
+    (refuted_untold c.args.files.now c.args.all.now c.args.text out out (taken c.in-Ok-Contradicted.places.items) ? ? refl)
