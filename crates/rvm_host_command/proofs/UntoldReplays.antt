@@ -47,9 +47,11 @@ module _ (name : List ℕ) (n : ℕ) (session out out' : Option (List ℕ)) wher
 
   pub nobody_untold : (here : Option Guest) → None ≡ here → out' ≡ out
       → IsUntold (λ status before after. HasAnswerStatus status name here n session out out' before after)
-  nobody_untold here is same =
-      (1, no_guest_line name n,
-      subst (λ g. HasAnswerStatus 1 name g n session out out' (Some []) (Some (no_guest_line name n))) is (same, refl))
+  nobody_untold here is same = (
+    1,
+    no_guest_line name n,
+    subst (λ g. HasAnswerStatus 1 name g n session out out' (Some []) (Some (no_guest_line name n))) is (same, refl),
+  )
 
 module _ (name : List ℕ) (most : Option ℕ) (journal image : List ℕ) (out out' : Option (List ℕ)) where
   -- a journal was refused
