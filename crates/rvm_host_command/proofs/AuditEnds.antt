@@ -1,5 +1,5 @@
 -- How an audit of journals ended.
-use Rattle.std.proofs.Common.{◌≡◌, ◌∙◌, ℕ, zero, suc, List, [], ◌++◌, map, length, Option, Some, None, Result, Ok, Err, codes, refl, sym, ap, subst, inl, inr}
+use Rattle.std.proofs.Common.{arith, ◌≡◌, ◌∙◌, ℕ, zero, suc, Bool, true, false, List, [], ◌∷◌, ◌++◌, ◌+◌, Global, Vec, map, length, length-append, Option, Some, None, Result, Ok, Err, codes, refl, sym, ap, subst, inl, inr}
 use Rattle.std.specs.Prelude.{IfOk, IfErr, OnErr}
 use denote.Ref.{Bor}
 use Rattle.rvm_audit.specs.Audits.{IsAudit, histories_of}
@@ -21,7 +21,7 @@ use Rattle.rvm_protocol.specs.World.{new_world}
 use Rattle.rvm_recorder.specs.History.{History, Recording}
 use Rattle.rvm_refusal.specs.declared.refusal.Refusal.TheVariants as refusal
 use Rattle.rvm_host_command.specs.Audited.{AreReplayed, IsOrdered, IsWritten, journals_in}
-use Rattle.rvm_host_command.specs.Findings.{AreRefuted, AreUndecided, EndsAt, HasAuditStatus, HasFindingStatus, IsFinding, IsMemoryTold, IsUntoldAudit, IsUntoldFinding, cuts_of, histories_in}
+use Rattle.rvm_host_command.specs.Findings.{AreRefuted, AreUndecided, EndsAt, HasAuditStatus, HasFindingStatus, IsFinding, IsMemoryTold, IsUntoldAudit, IsUntoldFinding, cuts_of, histories_in, is_cut}
 use Rattle.rvm_host_command.specs.Unaudited.{IsJournalsFault}
 use Rattle.rvm_host_command.specs.declared.journal_audit.AuditText.{AuditText}
 use Rattle.rvm_host_command.specs.declared.journal_audit.Finding.{Finding}
@@ -36,6 +36,32 @@ pub ends_at : (all : List Recording) (places : ℕ → ℕ)
     → IsDeadEnd (journals_in all) places × ((events : List Event) × IsOrder (cut places (journals_in all)) events)
     → EndsAt all places
 ends_at all places end = record { dead = end.0; events = end.1.0; order = end.1.1 }
+
+-- journals that have no order contradict one another, or what was cut off may explain that
+module _ (files : List JournalFile) (all : List Recording) (js js1 js2 : List (Bor History)) (places : Vec Place Global) (cuts cuts' : List Bool)
+    (same : histories_of js ≡ histories_in all) (is1 : js1 ≡ js) (is2 : js2 ≡ js)
+    (audit : IsAudit (journals_of (histories_of js1)) (NoOrder places))
+    (marks : cuts ≡ cuts_of files (length all)) (marked_are : cuts' ≡ cuts) (found : Bool) where
+  there : EndsAt all (taken places.items)
+  there = ends_at all (taken places.items)
+      (subst (λ hs. IsAudit (journals_of hs) (NoOrder places)) (ap histories_of is1 ∙ same) audit)
+
+  pub contradicted_if : (found ≡ true → AreContradicted (histories_of js2) cuts') → found ≡ true
+      → IsFinding files all (Contradicted places)
+  contradicted_if holds is =
+      (there, subst (λ hs. AreContradicted hs (cuts_of files (length all))) (ap histories_of is2 ∙ same)
+      (subst (AreContradicted (histories_of js2)) (marked_are ∙ marks) (holds is)))
+
+  pub explained_if : (found ≡ false → AreExplained (histories_of js2) cuts') → found ≡ false
+      → IsFinding files all (Undecided places)
+  explained_if holds is =
+      (there, subst (λ hs. AreExplained hs (cuts_of files (length all))) (ap histories_of is2 ∙ same)
+      (subst (AreExplained (histories_of js2)) (marked_are ∙ marks) (holds is)))
+
+-- for each host there is a mark
+pub marks_long : (files : List JournalFile) (n : ℕ) → length (cuts_of files n) ≡ n
+marks_long files zero = refl
+marks_long files (suc x) = length-append (cuts_of files x) (is_cut files x ∷ []) ∙ ap (λ k. k + 1) (marks_long files x) ∙ omega arith
 
 module _ (files : List JournalFile) (all : List Recording) (text : AuditText) (out out' errors errors' : Option (List ℕ)) where
   -- the journals contradict one another

@@ -1,5 +1,5 @@
 -- The journals of hosts, taken out one after the other.
-use Rattle.std.proofs.Common.{◌≡◌, ◌∙◌, ℕ, ◌+◌, ◌<◌, ◌≤◌, List, [], ◌∷◌, ◌++◌, arith, get_or, length, map, take, ap, sym}
+use Rattle.std.proofs.Common.{◌≡◌, ◌∙◌, ℕ, ◌+◌, ◌<◌, ◌≤◌, List, [], ◌∷◌, ◌++◌, arith, get_or, length, map, take, ap, subst, sym}
 use Rattle.std.proofs.lemmas.List.{length-map, map-append, take_more}
 use denote.Ref.{Bor}
 use Rattle.rvm_recorder.specs.History.{History, Recording}
@@ -29,10 +29,13 @@ journals_more all i r old new j less at so is own =
     ∙ ap (λ (s : Recording). journals (take i all ++ s ∷ [])) (sym at) ∙ ap journals (sym (take_more all i r less))
 
 -- there are as many journals as hosts
-pub as_many : (all : List Recording) (js : List (Bor History)) → histories_of js ≡ journals all → length all ≤ 8 → length js ≤ 8
-as_many all js is few =
+pub same_count : (all : List Recording) (js : List (Bor History)) → histories_of js ≡ journals all → length js ≡ length all
+same_count all js is =
     let same : length (histories_of js) ≡ length (journals all) = ap length is in
-    omega (arith, few, same, length-map js (λ (b : Bor History). b.now), length-map all (λ (r : Recording). r.journal))
+    omega (arith, same, length-map js (λ (b : Bor History). b.now), length-map all (λ (r : Recording). r.journal))
+
+pub as_many : (all : List Recording) (js : List (Bor History)) → histories_of js ≡ journals all → length all ≤ 8 → length js ≤ 8
+as_many all js is few = subst (λ n. n ≤ 8) (sym (same_count all js is)) few
 
 -- what was written is still written after what keeps it
 kept : (text : AuditText) (all : List Recording) (events : List Event) (before mid after : Option (List ℕ))

@@ -142,10 +142,9 @@ fn find<M: PagedMemory + Drop>(
         Audit::Order(order) => Ok(Finding::InOrder(order)),
         Audit::NoOrder(places) => {
             let cuts = cuts_of(alloc, files, all.len() as u8)?;
-            if are_contradictory(alloc, journals.as_slice(), cuts.as_slice())? {
-                Ok(Finding::Contradicted(places))
-            } else {
-                Ok(Finding::Undecided(places))
+            match are_contradictory(alloc, journals.as_slice(), cuts.as_slice())? {
+                true => Ok(Finding::Contradicted(places)),
+                false => Ok(Finding::Undecided(places)),
             }
         }
     }
