@@ -23,7 +23,8 @@ pub returns-in_ok-writeln-in-Ok-Undecided-clause-status : goal.returns-in_ok-wri
 returns-in_ok-writeln-in-Ok-Undecided-clause-status g c =
     let out = writer_contents g.O.Write.contents c.args.output.now in
     let found = subst (IsFinding c.args.files.now c.args.all.now) c.in-Ok-Undecided.field-0-is c.in-Ok-Undecided.ensures in
-    undecided c.args.files.now c.args.all.now c.args.text out out _ _ (taken c.in-Ok-Undecided.places.items)
+    undecided c.args.files.now c.args.all.now c.args.text out out
+    (g.E.Write.contents c.args.errors.now) (g.E.Write.contents c.writeln.new.self) (taken c.in-Ok-Undecided.places.items)
     found.0 found.1 refl
 
 pub returns-in_ok-tell_refusal-in-Err-clause-status : goal.returns-in_ok-tell_refusal-in-Err-clause-status
@@ -43,7 +44,7 @@ pub returns-in_err-tell_refusal-in-Ok-Contradicted-clause-untold : goal.returns-
 returns-in_err-tell_refusal-in-Ok-Contradicted-clause-untold g c =
     let out = writer_contents g.O.Write.contents c.args.output.now in
     let found = subst (IsFinding c.args.files.now c.args.all.now) c.in-Ok-Contradicted.field-0-is c.in-Ok-Contradicted.ensures in
-    on_error c.from_residual.result _
+    on_error c.from_residual-in_err-tell_refusal-in-Ok-Contradicted.result _
     (refuted_untold c.args.files.now c.args.all.now c.args.text out out (taken c.in-Ok-Contradicted.places.items)
     found.0 found.1 refl)
 
@@ -51,7 +52,7 @@ pub returns-in_err-tell_places-in-Ok-Undecided-clause-untold : goal.returns-in_e
 returns-in_err-tell_places-in-Ok-Undecided-clause-untold g c =
     let out = writer_contents g.O.Write.contents c.args.output.now in
     let found = subst (IsFinding c.args.files.now c.args.all.now) c.in-Ok-Undecided.field-0-is c.in-Ok-Undecided.ensures in
-    on_error c.from_residual.result _
+    on_error c.from_residual-in_err-tell_places-in-Ok-Undecided.result _
     (undecided_untold c.args.files.now c.args.all.now c.args.text out out (taken c.in-Ok-Undecided.places.items)
     found.0 found.1 refl)
 
@@ -59,11 +60,11 @@ pub returns-in_err-writeln-in-Ok-Undecided-clause-untold : goal.returns-in_err-w
 returns-in_err-writeln-in-Ok-Undecided-clause-untold g c =
     let out = writer_contents g.O.Write.contents c.args.output.now in
     let found = subst (IsFinding c.args.files.now c.args.all.now) c.in-Ok-Undecided.field-0-is c.in-Ok-Undecided.ensures in
-    on_error c.from_residual.result _
+    on_error c.from_residual-in_err-writeln-in-Ok-Undecided.result _
     (undecided_untold c.args.files.now c.args.all.now c.args.text out out (taken c.in-Ok-Undecided.places.items)
     found.0 found.1 refl)
 
 pub returns-in_err-tell_refusal-in-Err-clause-untold : goal.returns-in_err-tell_refusal-in-Err-clause-untold
 returns-in_err-tell_refusal-in-Err-clause-untold g c =
     let out = writer_contents g.O.Write.contents c.args.output.now in
-    on_error c.from_residual.result _ (memory_untold c.args.files.now c.args.all.now c.args.text out out refl)
+    on_error c.from_residual-in_err-tell_refusal-in-Err.result _ (memory_untold c.args.files.now c.args.all.now c.args.text out out refl)
