@@ -7,7 +7,6 @@ pub mod Consoles
 pub mod Replays
 pub mod Counts
 pub mod Audited
-pub mod FileFaults
 pub mod Unaudited
 pub mod Findings
 pub mod Processes
