@@ -40,7 +40,11 @@ pub has_audited : {F : Type 0} (files : Named) (a : AuditJournalsArguments) (jou
 has_audited files a journals image output errors (Err fault) journals_are image_is ended = tt
 has_audited files a journals image output errors (Ok s) journals_are image_is (inl audited) =
     inl (record {
-      journals = journals; image = image; journals_are = journals_are; image_is = image_is; audited = audited;
+      journals = journals;
+      image = image;
+      journals_are = journals_are;
+      image_is = image_is;
+      audited = audited;
     })
 has_audited files a journals image output errors (Ok s) journals_are image_is (inr unbegun) = inr unbegun
 
@@ -60,7 +64,11 @@ untold_audit files a journals image output (Err fault) journals_are image_is unt
         → JournalsEnded files a s output errors
     has_audited_so s errors (inl audited) =
         inl (record {
-          journals = journals; image = image; journals_are = journals_are; image_is = image_is; audited = audited;
+          journals = journals;
+          image = image;
+          journals_are = journals_are;
+          image_is = image_is;
+          audited = audited;
         })
     has_audited_so s errors (inr unbegun) = inr unbegun
 
@@ -92,6 +100,9 @@ pub audit_untold : {F : Type 0} (r : Result ℕ F) (files journals : List Journa
     → buffer ≡ before → OnErr r (IsUntoldAudit files bytes text buffer after)
     → (named : Named) → OnErr r (ToTell (λ s errors. IsAuditEnd s named journals image asked before errors))
 audit_untold (Ok s) files journals bytes image text asked buffer before after files_are image_is text_is empty untold named = tt
-audit_untold (Err e) files journals bytes image text asked buffer before after files_are image_is text_is empty untold named =
-    (untold.0, untold.1, inl (audited_with untold.0 files journals bytes image text asked buffer before after
-    (written (Some []) (Some untold.1)) files_are image_is text_is empty untold.2))
+audit_untold (Err e) files journals bytes image text asked buffer before after files_are image_is text_is empty untold named = (
+  untold.0,
+  untold.1,
+  inl (audited_with untold.0 files journals bytes image text asked buffer before after
+      (written (Some []) (Some untold.1)) files_are image_is text_is empty untold.2),
+)
