@@ -1,18 +1,15 @@
 -- Journals that are read from files and audited.
 use Rattle.std.proofs.Common.{◌≡◌, ◌⊎◌, ◌<◌, ◌+◌, ℕ, zero, suc, List, [], ◌∷◌, ◌++◌, Option, Some, Result, Ok, Err, inl, inr, sym, subst, take, length, arith}
-use Rattle.std.specs.Io.KnownBytes.{Appends}
 use Rattle.std.specs.Prelude.{OnErr, get_or, slice_get}
 use Rattle.std.specs.Result.{IfOk}
 use Rattle.std.specs.Borrow.{Bor}
 use Rattle.std.proofs.lemmas.Option.{none-some, same_Some, slice_get-get_or}
 use Rattle.rvm_arguments.specs.declared.arguments.AuditJournalsArguments.{AuditJournalsArguments}
-use Rattle.rvm_host_command.specs.Findings.{HasAuditStatus}
+use Rattle.rvm_host_command.specs.Findings.{HasAuditStatus, IsUntoldAudit}
 use Rattle.rvm_host_command.specs.declared.journal_audit.AuditText.{AuditText}
 use Rattle.rvm_host_command.specs.declared.journal_file.JournalFile.{JournalFile}
-use Rattle.rvm_program.specs.Ended.{AreAuditedTo, AreJournals, IsJournal, IsNotBegun, IsOneMore, JournalsEnded, ToTell, Written, text_of, written}
-use Rattle.rvm_program.specs.Files.{IsFile, IsFileRefusal, IsLong, Named, file_text}
-use Rattle.rvm_refusal.specs.declared.refusal.Refusal.{Refusal}
-use Rattle.rvm_refusal.specs.declared.refusal.Refusal.TheVariants.{TooLong}
+use Rattle.rvm_program.specs.Ended.{AreAuditedTo, AreJournals, IsAuditEnd, IsJournal, IsNotBegun, IsOneMore, JournalsEnded, ToTell, Written, text_of, written}
+use Rattle.rvm_program.specs.Files.{IsFile, Named}
 
 after_one : (files : Named) (names : List (Bor (List ℕ))) (i : ℕ) (js : List JournalFile) (n : Bor (List ℕ)) (j : JournalFile)
     → AreJournals files (take i names) js → slice_get names i ≡ Some n → IsJournal (files n.now) j.bytes.items
@@ -43,9 +40,13 @@ pub has_audited : {F : Type 0} (files : Named) (a : AuditJournalsArguments) (jou
 has_audited files a journals image output errors (Err fault) journals_are image_is ended = tt
 has_audited files a journals image output errors (Ok s) journals_are image_is (inl audited) =
     inl (record {
-      journals = journals; image = image; journals_are = journals_are; image_is = image_is; audited = audited;
+      journals = journals;
+      image = image;
+      journals_are = journals_are;
+      image_is = image_is;
+      audited = audited;
     })
-has_audited files a journals image output errors (Ok s) journals_are image_is (inr no) = inr no
+has_audited files a journals image output errors (Ok s) journals_are image_is (inr unbegun) = inr unbegun
 
 -- the report of its end is not complete
 pub untold_audit : {F : Type 0} (files : Named) (a : AuditJournalsArguments) (journals : List JournalFile) (image : List ℕ)
@@ -63,27 +64,45 @@ untold_audit files a journals image output (Err fault) journals_are image_is unt
         → JournalsEnded files a s output errors
     has_audited_so s errors (inl audited) =
         inl (record {
-          journals = journals; image = image; journals_are = journals_are; image_is = image_is; audited = audited;
+          journals = journals;
+          image = image;
+          journals_are = journals_are;
+          image_is = image_is;
+          audited = audited;
         })
-    has_audited_so s errors (inr no) = inr no
-
--- a file was refused, and that was reported, or was to be reported
-pub file_told : (files : Named) (name : List ℕ) (why : Refusal) (limit : ℕ) (errors : Written)
-    → IsFileRefusal why ⊎ IsLong (files name) limit TooLong why
-    → Appends errors.before errors.after (file_text name why) → IsNotBegun files errors
-file_told files name why limit errors reason told =
-    inl (record { name = name; why = why; limit = limit; reason = reason; told = told })
+    has_audited_so s errors (inr unbegun) = inr unbegun
 
 -- what was asked for was written to a buffer that holds what the output does
-pub audited_to : {F : Type 0} (r : Result ℕ F) (files journals : List JournalFile) (bytes image : List ℕ) (text asked : AuditText)
-    (buffer before after : Option (List ℕ)) (errors : Written) → files ≡ journals → bytes ≡ image → text ≡ asked → buffer ≡ before
-    → IfOk r (λ s. HasAuditStatus s files bytes text buffer after errors.before errors.after)
-    → IfOk r (λ s. AreAuditedTo s journals image asked before errors)
-audited_to (Ok s) files journals bytes image text asked buffer before after errors files_are image_is text_is empty audited = (
+audited_with : (s : ℕ) (files journals : List JournalFile) (bytes image : List ℕ) (text asked : AuditText)
+    (buffer before after : Option (List ℕ)) (errors : Written) → files ≡ journals → bytes ≡ image → text ≡ asked
+    → buffer ≡ before → HasAuditStatus s files bytes text buffer after errors.before errors.after
+    → AreAuditedTo s journals image asked before errors
+audited_with s files journals bytes image text asked buffer before after errors files_are image_is text_is empty audited = (
   after,
   subst (λ j. HasAuditStatus s j image asked before after errors.before errors.after) files_are
       (subst (λ i. HasAuditStatus s files i asked before after errors.before errors.after) image_is
       (subst (λ t. HasAuditStatus s files bytes t before after errors.before errors.after) text_is
       (subst (λ b. HasAuditStatus s files bytes text b after errors.before errors.after) empty audited))),
 )
-audited_to (Err e) files journals bytes image text asked buffer before after errors files_are image_is text_is empty audited = tt
+
+pub audited_to : {F : Type 0} (r : Result ℕ F) (files journals : List JournalFile) (bytes image : List ℕ)
+    (text asked : AuditText) (buffer before after : Option (List ℕ)) (errors : Written) → files ≡ journals → bytes ≡ image
+    → text ≡ asked → buffer ≡ before
+    → IfOk r (λ s. HasAuditStatus s files bytes text buffer after errors.before errors.after)
+    → (named : Named) → IfOk r (λ s. IsAuditEnd s named journals image asked before errors)
+audited_to (Ok s) files journals bytes image text asked buffer before after errors files_are image_is text_is empty audited named =
+    inl (audited_with s files journals bytes image text asked buffer before after errors files_are image_is text_is empty audited)
+audited_to (Err e) files journals bytes image text asked buffer before after errors files_are image_is text_is empty audited named = tt
+
+-- or was to be reported
+pub audit_untold : {F : Type 0} (r : Result ℕ F) (files journals : List JournalFile) (bytes image : List ℕ)
+    (text asked : AuditText) (buffer before after : Option (List ℕ)) → files ≡ journals → bytes ≡ image → text ≡ asked
+    → buffer ≡ before → OnErr r (IsUntoldAudit files bytes text buffer after)
+    → (named : Named) → OnErr r (ToTell (λ s errors. IsAuditEnd s named journals image asked before errors))
+audit_untold (Ok s) files journals bytes image text asked buffer before after files_are image_is text_is empty untold named = tt
+audit_untold (Err e) files journals bytes image text asked buffer before after files_are image_is text_is empty untold named = (
+  untold.0,
+  untold.1,
+  inl (audited_with untold.0 files journals bytes image text asked buffer before after
+      (written (Some []) (Some untold.1)) files_are image_is text_is empty untold.2),
+)

@@ -9,3 +9,4 @@ pub mod AuditedFiles
 pub mod Reading
 pub mod Statuses
 pub mod Told
+mod ReplayEnds

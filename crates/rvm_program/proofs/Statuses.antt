@@ -1,5 +1,5 @@
 -- The statuses of commands.
-use Rattle.std.proofs.Common.{◌≡◌, ◌⊎◌, ◌<◌, Bool, true, false, ℕ, zero, suc, List, ◌++◌, codes, Option, Result, Ok, Err, refl, inl, inr, subst, sym, ◌∙◌, arith}
+use Rattle.std.proofs.Common.{◌≡◌, ◌⊎◌, ◌<◌, Bool, true, false, ℕ, zero, suc, List, ◌++◌, codes, Option, None, Some, Result, Ok, Err, refl, inl, inr, subst, sym, ◌∙◌, arith}
 use Rattle.std.specs.Borrow.{Bor}
 use Rattle.std.specs.Result.{IfErr, IfOk}
 use Rattle.std.specs.Prelude.{OnErr}
@@ -124,7 +124,7 @@ replayed : (files : Named) (a : ReplayArguments) (n : ℕ) (input : Option (List
     (output errors : Written) → ReplayEnded files a (suc (suc n)) input output errors → ⊥
 replayed files a n input output errors (inl e) =
     no_end files a a.script n e.journal e.image input output errors e.ended
-replayed files a n input output errors (inr no) = let it : suc (suc n) ≡ 1 = no.0 in omega (arith, it)
+replayed files a n input output errors (inr u) = let it : suc (suc n) ≡ 1 = u.0 in omega (arith, it)
 
 -- an audit of journals has one of three statuses
 audited : (files : Named) (a : AuditJournalsArguments) (n : ℕ) (output : Option (List ℕ)) (errors : Written)
@@ -136,7 +136,7 @@ audited files a (suc zero) output errors (inl has) = record {
   judged = λ above. (let it : 3 < 3 = above in absurd (omega (arith, it)));
 }
 audited files a (suc (suc n)) output errors (inl has) = absurd has.audited.1
-audited files a n output errors (inr no) = let it : suc (suc n) ≡ 1 = no.0 in absurd (omega (arith, it))
+audited files a n output errors (inr u) = let it : suc (suc n) ≡ 1 = u.0 in absurd (omega (arith, it))
 
 -- a command that ended with more than 1 was asked for such a status
 more : (files created : Named) (a : Arguments) (n : ℕ) (script : Option (List ℕ)) (output errors : Written)

@@ -2,7 +2,7 @@
 use Rattle.std.specs.Borrow.{Bor}
 use Rattle.std.specs.Io.KnownBytes.{Appends}
 use Rattle.std.specs.Str.{bytes_eq}
-use Rattle.std.specs.Prelude.{◌≡◌, ◌⊎◌, ⊤, if◌then◌else◌, codes, ℕ, zero, suc, Bool, true, false, List, [], ◌∷◌, ◌++◌, Option, None, Some, IfSome, Result, option_map}
+use Rattle.std.specs.Prelude.{◌≡◌, ◌⊎◌, ⊤, codes, ℕ, zero, suc, Bool, true, false, List, [], ◌∷◌, ◌++◌, Option, None, Some, IfSome, Result, option_map}
 use Rattle.rvm_arguments.specs.declared.arguments.Arguments.{Arguments}
 use Rattle.rvm_arguments.specs.declared.arguments.Arguments.TheVariants.{Run, Asm, Dis, Debug, Script, Move, Audit, Host, Tell, Replay, AuditJournals}
 use Rattle.rvm_arguments.specs.declared.arguments.AsmArguments.{AsmArguments}
@@ -186,10 +186,14 @@ IsFileOrNone files (Some name) bytes = IsFile (files name.now) bytes
 abbrev pub IsJournal : (known : Option (List ℕ)) → (lines : List ℕ) → Type 0
 IsJournal known lines = IfSome known (λ bytes. AreWholeLines bytes lines)
 
--- the session with this name: all that standard input gives, or all bytes of a file
+-- a session is all that standard input gives, or all bytes of a file
+abbrev pub IsGiven : (standard : Bool) → (known input session : Option (List ℕ)) → Type 0
+IsGiven true known input session = session ≡ input
+IsGiven false known input session = IsOpened known session
+
+-- the session with this name: standard input for `-`, or a file
 abbrev pub IsSession : (files : Named) → (name : List ℕ) → (input session : Option (List ℕ)) → Type 0
-IsSession files name input session =
-    if bytes_eq name (codes "-") then session ≡ input else IsOpened (files name) session
+IsSession files name input session = IsGiven (bytes_eq name (codes "-")) (files name) input session
 
 -- a session was answered for the guest of a journal, or not, and wrote to a buffer in front of the output
 pub record IsSessionEnd (files : Named) (a : ReplayArguments) (name : List ℕ) (status : ℕ) (journal image : List ℕ)

@@ -228,10 +228,12 @@ fn read_symbols<F: NamedFiles>(
     ensures refused { IfErr result (λ r. IsFileRefusal r ⊎ IsLongSymbols (F.bytes_of files.now) report.now r) }
 {
     match report {
-        Some(ReportArguments {
-            report: Report::Profile { symbols },
-            ..
-        }) => read_whole(files, alloc, symbols),
+        Some(
+            ReportArguments {
+                report: Report::Profile { symbols },
+                ..
+            },
+        ) => read_whole(files, alloc, symbols),
         _ => Ok(Vec::new(alloc)),
     }
 }

@@ -94,10 +94,12 @@ impl<'b, F: NamedFiles> Refusing<'b, F> {
         ensures { IfSome result (IsTrue (F.bytes_of self.now.files.now)) }
     {
         match run.report {
-            Some(ReportArguments {
-                report: Report::Profile { symbols },
-                ..
-            }) => self.find_in_file(symbols, MAX_FILE_SIZE),
+            Some(
+                ReportArguments {
+                    report: Report::Profile { symbols },
+                    ..
+                },
+            ) => self.find_in_file(symbols, MAX_FILE_SIZE),
             _ => None,
         }
     }

@@ -7,7 +7,8 @@ use Rattle.rvm_program.proofs.commands.run_read.Goals as goal
 
 pub returns-clause-told : goal.returns-clause-told
 returns-clause-told g c =
-    status_written (g.F.NamedFiles.created_of c.args.files.now) c.args.arguments.now c.args.image.now c.args.input.now
+    status_written (g.F.NamedFiles.created_of c.args.files.now) c.args.arguments.now c.args.read.now.image.now
+    c.args.read.now.input.now c.args.read.now.symbols.now
     (written (g.O.Write.contents c.args.output.now) (g.O.Write.contents c.run_command.new.output))
     (written (either (writer_contents g.F.Created.Write.contents) (λ s. None) c.in_ok-written.written.trace)
     (either (writer_contents g.F.Created.Write.contents) (λ s. None) c.run_command.new.files.trace))
@@ -19,7 +20,8 @@ returns-clause-told g c =
 
 pub returns-clause-end : goal.returns-clause-end
 returns-clause-end g c =
-    end_written (g.F.NamedFiles.created_of c.args.files.now) c.args.arguments.now c.args.image.now c.args.input.now
+    end_written (g.F.NamedFiles.created_of c.args.files.now) c.args.arguments.now c.args.read.now.image.now
+    c.args.read.now.input.now c.args.read.now.symbols.now
     (written (g.O.Write.contents c.args.output.now) (g.O.Write.contents c.run_command.new.output))
     (written (either (writer_contents g.F.Created.Write.contents) (λ s. None) c.in_ok-written.written.trace)
     (either (writer_contents g.F.Created.Write.contents) (λ s. None) c.run_command.new.files.trace))

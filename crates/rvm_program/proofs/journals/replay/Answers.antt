@@ -1,0 +1,19 @@
+use Rattle.std.proofs.Common.{ℕ}
+use Rattle.rvm_program.specs.Ended.{HasReplayed, Written, written}
+use Rattle.rvm_program.proofs.ReplayEnds.{file_untold, replay_untold}
+use Rattle.rvm_program.proofs.journals.replay.Goals as goal
+
+pub returns-in-Ok-clause-untold : goal.returns-in-Ok-clause-untold
+returns-in-Ok-clause-untold g c =
+    replay_untold (g.F.NamedFiles.bytes_of c.args.files.now) c.args.arguments.now c.in-Ok.read.journal.items
+    c.in-Ok.read.image.items (g.I.Read.remaining c.args.input.now)
+    (written (g.O.Write.contents c.args.output.now) (g.O.Write.contents c.replay_read.new.output))
+    c.in-Ok.ensures.journal c.in-Ok.ensures.image c.replay_read.result c.replay_read.ensures.untold
+
+pub returns-in-Err-clause-untold : goal.returns-in-Err-clause-untold
+returns-in-Err-clause-untold g c =
+    let files = g.F.NamedFiles.bytes_of c.args.files.now in
+    let output = written (g.O.Write.contents c.args.output.now) (g.O.Write.contents c.args.output.now) in
+    let Ends : ℕ → Written → Type 0 = λ status errors. HasReplayed files c.args.arguments.now status
+    (g.I.Read.remaining c.args.input.now) output errors in
+    file_untold c.tell_file.result Ends files c.in-Err.path.now c.in-Err.why c.in-Err.ensures.refused
