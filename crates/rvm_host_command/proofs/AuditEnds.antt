@@ -48,15 +48,19 @@ module _ (files : List JournalFile) (all : List Recording) (js js1 js2 : List (B
 
   pub contradicted_if : (found ≡ true → AreContradicted (histories_of js2) cuts') → found ≡ true
       → IsFinding files all (Contradicted places)
-  contradicted_if holds is =
-      (there, subst (λ hs. AreContradicted hs (cuts_of files (length all))) (ap histories_of is2 ∙ same)
-      (subst (AreContradicted (histories_of js2)) (marked_are ∙ marks) (holds is)))
+  contradicted_if holds is = (
+    there,
+    subst (λ hs. AreContradicted hs (cuts_of files (length all))) (ap histories_of is2 ∙ same)
+        (subst (AreContradicted (histories_of js2)) (marked_are ∙ marks) (holds is)),
+  )
 
   pub explained_if : (found ≡ false → AreExplained (histories_of js2) cuts') → found ≡ false
       → IsFinding files all (Undecided places)
-  explained_if holds is =
-      (there, subst (λ hs. AreExplained hs (cuts_of files (length all))) (ap histories_of is2 ∙ same)
-      (subst (AreExplained (histories_of js2)) (marked_are ∙ marks) (holds is)))
+  explained_if holds is = (
+    there,
+    subst (λ hs. AreExplained hs (cuts_of files (length all))) (ap histories_of is2 ∙ same)
+        (subst (AreExplained (histories_of js2)) (marked_are ∙ marks) (holds is)),
+  )
 
 -- for each host there is a mark
 pub marks_long : (files : List JournalFile) (n : ℕ) → length (cuts_of files n) ≡ n

@@ -1,9 +1,9 @@
 //! All hosts of a world do again what their journals tell.
 
-ghost use Rattle.std.specs.Prelude.{◌≡◌, ◌∷◌, ◌++◌, ◌≤◌, ◌<◌, [], IfErr, IfOk, OnOk, length};
+ghost use Rattle.std.specs.Prelude.{◌≡◌, ◌⊎◌, ◌∷◌, ◌++◌, ◌≤◌, ◌<◌, [], IfErr, IfOk, OnOk, length};
 ghost use Rattle.rvm_host_command.specs.Audited.{AllDone, AreReplayed, HasDone, IsHostAt, IsIdle};
 ghost use Rattle.rvm_host_command.specs.Unaudited.{IsJournalsFault};
-ghost use Rattle.rvm_host_command.specs.declared.journal_file.JournalsFault.TheVariants.{OutOfMemory};
+ghost use Rattle.rvm_host_command.specs.declared.journal_file.JournalsFault.TheVariants.{File, OutOfMemory};
 
 use crate::journal_file::{FileFault, JournalFile, JournalsFault};
 use crate::journal_headers::{Wanted, header_number, hosts_of_world, index_of};
@@ -122,7 +122,16 @@ fn replay_file<M: PagedMemory + Drop>(
     let file = &files[index];
     match replay_bytes(alloc, &header, &file.bytes, image, None) {
         Ok(recorded) => Ok(recorded),
-        Err(FileFault::Journal(JournalFault::OutOfMemory)) => Err(JournalsFault::OutOfMemory),
-        Err(fault) => Err(JournalsFault::File(index, fault)),
+        Err(fault) => Err(fault_at(index, fault)),
+    }
+}
+
+/// Why journals are not audited if this is wrong with the one that has this index.
+fn fault_at(index: usize, fault: FileFault) -> JournalsFault
+    ensures { (result ≡ OutOfMemory) ⊎ (result ≡ File index fault) }
+{
+    match fault {
+        FileFault::Journal(JournalFault::OutOfMemory) => JournalsFault::OutOfMemory,
+        _ => JournalsFault::File(index, fault),
     }
 }
