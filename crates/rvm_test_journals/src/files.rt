@@ -54,7 +54,7 @@ enum Case {
     Twice,
     /// To host C comes a frame that nobody sent.
     Unsent,
-    /// The journal of host C ends with the line before its last one.
+    /// The journal of host C has no end, and not the line before it.
     Cut,
     /// The journal of host C has no line.
     Empty,
@@ -75,7 +75,7 @@ pub fn audit_files<R: AllocGlobal + Print>(rt: &R) -> Option<()> {
     audit(rt, "journals of three hosts", Case::All)?;
     audit(rt, "their order", Case::Order)?;
     audit(rt, "the number of the world at each host", Case::SameWorld)?;
-    audit(rt, "without the last line of host C", Case::Cut)?;
+    audit(rt, "without the last two lines of host C", Case::Cut)?;
     audit(rt, "a frame that nobody sent", Case::Unsent)?;
     audit(rt, "without host B", Case::Without(1))?;
     audit(rt, "without host A", Case::Without(0))?;
@@ -120,7 +120,10 @@ fn audit_hosts<R: AllocGlobal + Print>(
     let b = write_journal(alloc, &header_of(1, case), b.journal())?;
     let mut c = write_journal(alloc, &header_of(2, case), c.journal())?;
     match case {
-        Case::Cut => cut(&mut c)?,
+        Case::Cut => {
+            cut(&mut c)?;
+            cut(&mut c)?;
+        }
         Case::Damaged(line) => damage(&mut c, line)?,
         _ => {}
     }
