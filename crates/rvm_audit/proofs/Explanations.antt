@@ -173,7 +173,7 @@ module _ (j : Journals) (is_cut : ℕ → Bool) (places : ℕ → ℕ) (members 
         let more = c.more u.from m.0 m.1 o.was_cut in
         omega (arith, l, all, more)
 
-  -- no entry of such a host stands behind its place
+  -- no entry of such a host comes after its place
   next_within : (k : ℕ) (s : HostEntry) → slice_get ss k ≡ Some s → AllWithin k → AllWithin (suc k)
   next_within k s at within y lt here = by (y == s.0) (eqb-true y s.0) refl where
     more : done (suc k) y ≡ done k y ++ cons_if (y == s.0) s.1 []

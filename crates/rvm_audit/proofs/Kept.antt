@@ -50,7 +50,7 @@ module _ (j : Journals) (is_cut : ℕ → Bool) where
   abbrev IsKept : (left : ℕ → ℕ) → List HostEntry → (y : ℕ) → List ℕ → Type 0
   IsKept left kept y bytes = IsAmong y kept bytes ⊎ ((left y ≡ 0) × (is_cut y ≡ true))
 
-  -- these entries were kept, and so many are left of each journal
+  -- these entries were kept, and this many are left of each journal
   record Keeps (w : Hosts) (left : ℕ → ℕ) (kept ss : List HostEntry) : Type 0 where
     entries : (y : ℕ) → y < j.openings.count → entries_at y kept ++ take (left y) (entries_at y ss) ≡ j.entries y
     whole : (y : ℕ) → y < j.openings.count → is_cut y ≡ false → left y ≡ length (entries_at y ss)

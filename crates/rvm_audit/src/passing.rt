@@ -12,7 +12,7 @@ use crate::part::{Part, Place};
 use std::alloc::{AllocError, Global};
 
 /// Goes through at most eight journals until none can go on, as if each host whose journal `cuts` marks had made any
-/// frame behind the end of its journal. Returns how much of each was taken.
+/// frame after the end of its journal. Returns how much of each was taken.
 pub(crate) fn pass_all(
     alloc: Global,
     parts: &[Part<'_>],

@@ -76,7 +76,7 @@ pub record IsSessionRefused (guest : Guest) (session before after errors_before 
 abbrev pub no_guest_line : (name : List ℕ) → (count : ℕ) → List ℕ
 no_guest_line name n = name ++ codes ": no guest is here after " ++ decimal n ++ codes " events" ++ codes "\n"
 
--- why a session was not answered to its end after so many events: no guest is there, and nothing was written, or a line of
+-- why a session was not answered to its end after this many events: no guest is there, and nothing was written, or a line of
 -- the session was refused, or a read or a write failed
 abbrev pub IsUnanswered : (name : List ℕ) → Option Guest → (count : ℕ)
     → (session before after errors_before errors_after : Option (List ℕ)) → Type 0

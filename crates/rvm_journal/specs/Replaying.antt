@@ -158,7 +158,7 @@ IsLineFault (BadLine k) n h number d line = (k ≡ number) × (noted_at n h d li
 IsLineFault TooLong n h number d line = ⊥
 IsLineFault OutOfMemory n h number d line = ⊤
 
--- why not so many events of a line were done: too little room, or memory ran out
+-- why this many events, as a line tells, were not done: too little room, or memory ran out
 abbrev pub IsRoomFault : JournalFault → (count room : ℕ) → Type 0
 IsRoomFault (BadLine k) count room = ⊥
 IsRoomFault TooLong count room = room < count

@@ -3,7 +3,7 @@
 ghost use Rattle.std.specs.Prelude.{◌≤◌, length, take};
 ghost use Rattle.rvm_journal.specs.Whole.{AreWholeLines};
 
-/// How many bytes of a journal stand in whole lines: all up to and with the last line feed. What stands behind it is part
+/// How many bytes of a journal stand in whole lines: all up to and with the last line feed. What comes after it is part
 /// of a line that could not be written to its end.
 pub fn whole_size(bytes: &[u8]) -> usize
     ensures whole { AreWholeLines bytes.now (take result bytes.now) }

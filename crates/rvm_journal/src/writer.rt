@@ -18,7 +18,7 @@ use std::marker::Model;
 
 /// Writes the journal of a host, line by line: each event is handed to the system when it is kept, but for turns, which
 /// share a line with the turns before and after them. When it is finished, its last line says so. If a line cannot be
-/// written, or memory runs out, the journal is cut off behind the line before it, and nothing is kept from then on.
+/// written, or memory runs out, the journal is cut off after the line before it, and nothing is kept from then on.
 #[derive(Drop)]
 pub struct JournalWriter<W: Write + Drop> {
     file: Option<JournalFile<W>>,
