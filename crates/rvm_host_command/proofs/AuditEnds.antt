@@ -1,6 +1,6 @@
 -- How an audit of journals ended.
 use Rattle.std.proofs.Common.{arith, ◌≡◌, ◌∙◌, ℕ, zero, suc, Bool, true, false, List, [], ◌∷◌, ◌++◌, ◌+◌, Global, Vec, map, length, length-append, Option, Some, None, Result, Ok, Err, codes, refl, sym, ap, subst, inl, inr}
-use Rattle.std.specs.Prelude.{IfOk, IfErr, OnErr}
+use Rattle.std.specs.Prelude.{IfOk, IfErr, OnErr, slice_get}
 use denote.Ref.{Bor}
 use Rattle.rvm_audit.specs.Audits.{IsAudit, histories_of}
 use Rattle.rvm_audit.specs.Cuts.{AreContradicted, AreExplained}
@@ -21,7 +21,8 @@ use Rattle.rvm_protocol.specs.World.{new_world}
 use Rattle.rvm_recorder.specs.History.{History, Recording}
 use Rattle.rvm_refusal.specs.declared.refusal.Refusal.TheVariants as refusal
 use Rattle.rvm_host_command.specs.Audited.{AreReplayed, IsOrdered, IsWritten, journals_in}
-use Rattle.rvm_host_command.specs.Findings.{AreRefuted, AreUndecided, EndsAt, HasAuditStatus, HasFindingStatus, IsFinding, IsMemoryTold, IsUntoldAudit, IsUntoldFinding, cuts_of, histories_in, is_cut}
+use Rattle.rvm_host_command.specs.Findings.{AreRefuted, AreUndecided, EndsAt, HasAuditStatus, HasFindingStatus, IsFaultTold, IsFinding, IsUntoldAudit, IsUntoldFinding, cuts_of, histories_in, is_cut, name_of}
+use Rattle.rvm_host_command.specs.FileFaults.{fault_line}
 use Rattle.rvm_host_command.specs.Unaudited.{IsJournalsFault}
 use Rattle.rvm_host_command.specs.declared.journal_audit.AuditText.{AuditText}
 use Rattle.rvm_host_command.specs.declared.journal_audit.Finding.{Finding}
@@ -151,14 +152,14 @@ module _ (files : List JournalFile) (image : List ℕ) (all : List Recording) (a
 -- journals are not audited
 module _ (files : List JournalFile) (image : List ℕ) (text : AuditText) (out out' : Option (List ℕ)) (fault : JournalsFault)
     (reason : IsJournalsFault files image fault) where
-  pub not_audited : (errors errors' : Option (List ℕ)) → IsMemoryTold fault errors errors' → out' ≡ out
+  pub not_audited : (errors errors' : Option (List ℕ)) → IsFaultTold files fault errors errors' → out' ≡ out
       → HasAuditStatus 1 files image text out out' errors errors'
   not_audited errors errors' told same = inl (record { fault = fault; reason = reason; told = told; same = same })
 
-  told_of : (f : JournalsFault) → (report : List ℕ) × IsMemoryTold f (Some []) (Some report)
+  told_of : (f : JournalsFault) → (report : List ℕ) × IsFaultTold files f (Some []) (Some report)
   told_of journals.OutOfMemory = (refused_text (refused refusal.OutOfMemory) ++ codes "\n", refl)
-  told_of journals.NoGuest = ([], tt)
-  told_of (journals.File i f) = ([], tt)
+  told_of journals.NoGuest = (codes "no journal begins with a guest" ++ codes "\n", refl)
+  told_of (journals.File i f) = (fault_line (name_of (slice_get files i)) f, refl)
 
   pub not_audited_untold : out' ≡ out → IsUntoldAudit files image text out out'
   not_audited_untold same =

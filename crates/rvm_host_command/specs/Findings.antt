@@ -1,5 +1,6 @@
 -- What an audit of journals in files found, and the status that says so.
-use Rattle.std.specs.Prelude.{◌≡◌, ◌⊎◌, ⊤, ℕ, zero, suc, ◌&&◌, not, Bool, false, List, [], ◌∷◌, ◌++◌, length, map, Option, None, Some}
+use Rattle.std.specs.Prelude.{◌≡◌, ◌⊎◌, ⊤, ℕ, zero, suc, ◌&&◌, not, Bool, false, List, [], ◌∷◌, ◌++◌, codes, length, map, Option, None, Some, slice_get}
+use Rattle.std.specs.Io.KnownBytes.{Appends}
 use Rattle.std.specs.List.{list_any}
 use Rattle.rvm_audit.specs.Cuts.{AreContradicted, AreExplained}
 use Rattle.rvm_audit.specs.Orders.{IsDeadEnd, IsOrder, cut}
@@ -12,6 +13,7 @@ use Rattle.rvm_journal.specs.Replaying.{is_whole}
 use Rattle.rvm_recorder.specs.History.{History, Recording}
 use Rattle.rvm_refusal.specs.declared.refusal.Refusal.TheVariants.{LinkFault, OutOfMemory}
 use Rattle.rvm_host_command.specs.Audited.{AreAudited, AreReplayed, IsOrdered, is_wanted, journals_in}
+use Rattle.rvm_host_command.specs.FileFaults.{fault_line}
 use Rattle.rvm_host_command.specs.Unaudited.{IsJournalsFault}
 use Rattle.rvm_host_command.specs.declared.journal_audit.AuditText.{AuditText}
 use Rattle.rvm_host_command.specs.declared.journal_audit.Finding.{Finding}
@@ -92,16 +94,24 @@ pub record AreNotInOrder (files : List JournalFile) (image : List ℕ) (out out'
   pub replayed : AreReplayed files image all
   pub found : IsRefusedFinding files all out out' errors errors'
 
--- if memory ran out, that was reported
-abbrev pub IsMemoryTold : JournalsFault → (errors errors' : Option (List ℕ)) → Type 0
-IsMemoryTold journals.OutOfMemory errors errors' = IsTold (refused OutOfMemory) errors errors'
-IsMemoryTold fault errors errors' = ⊤
+-- the name under which a journal is reported
+abbrev pub name_of : Option JournalFile → List ℕ
+name_of None = codes "journal"
+name_of (Some file) = file.name.now
 
--- the journals are not audited for this reason
+-- why journals are not audited was reported
+abbrev pub IsFaultTold : List JournalFile → JournalsFault → (errors errors' : Option (List ℕ)) → Type 0
+IsFaultTold files journals.OutOfMemory errors errors' = IsTold (refused OutOfMemory) errors errors'
+IsFaultTold files journals.NoGuest errors errors' =
+    Appends errors errors' (codes "no journal begins with a guest" ++ codes "\n")
+IsFaultTold files (journals.File i fault) errors errors' =
+    Appends errors errors' (fault_line (name_of (slice_get files i)) fault)
+
+-- the journals are not audited for this reason, which was reported
 pub record AreNotAudited (files : List JournalFile) (image : List ℕ) (out out' errors errors' : Option (List ℕ)) : Type 0 where
   pub fault : JournalsFault
   pub reason : IsJournalsFault files image fault
-  pub told : IsMemoryTold fault errors errors'
+  pub told : IsFaultTold files fault errors errors'
   pub same : out' ≡ out
 
 -- the hosts of a world did what their journals tell; that has no order, and what was cut off may explain it

@@ -8,7 +8,7 @@ ghost use Rattle.rvm_command.specs.Refusals.{IsTold, refused};
 ghost use Rattle.rvm_refusal.specs.declared.refusal.Refusal.TheVariants as refusal;
 ghost use Rattle.rvm_audit.specs.Rule.{IsMerge};
 ghost use Rattle.rvm_host_command.specs.Audited.{IsWritten, journals_in};
-ghost use Rattle.rvm_host_command.specs.Findings.{HasAuditStatus, HasFindingStatus, IsFinding, IsMemoryTold, IsUntoldAudit, IsUntoldFinding};
+ghost use Rattle.rvm_host_command.specs.Findings.{HasAuditStatus, HasFindingStatus, IsFaultTold, IsFinding, IsUntoldAudit, IsUntoldFinding};
 ghost use Rattle.rvm_host_command.specs.declared.journal_file.JournalFile.{JournalFile};
 
 use crate::answers::letter_of;
@@ -213,7 +213,7 @@ fn tell_fault<E: Write>(
     fault: JournalsFault,
     errors: &mut E,
 ) -> Result<(), LinkFault>
-    ensures { OnOk result (IsMemoryTold fault (E.contents errors.old) (E.contents errors.new)) }
+    ensures { OnOk result (IsFaultTold files.now fault (E.contents errors.old) (E.contents errors.new)) }
 {
     match fault {
         JournalsFault::OutOfMemory => tell_refusal(Refusal::OutOfMemory, errors)?,

@@ -2,7 +2,7 @@
 
 use rvm_command::refused::Refused;
 use rvm_journal::JournalFault;
-use thiserror::Error;
+use std::fmt;
 
 /// A journal in a file.
 #[derive(Debug, Drop)]
@@ -14,32 +14,44 @@ pub struct JournalFile<'a> {
 }
 
 /// What is wrong with a journal.
-#[derive(Clone, Copy, Debug, Error)]
+#[derive(Clone, Copy, Debug)]
 pub enum FileFault {
     /// The first line is no header, or does not show its digest.
-    #[error("line 1: no header of a journal")]
     NoHeader,
     /// A journal before it is of the same host.
-    #[error("a second journal of host {0}")]
     SameHost(char),
     /// The host began with a guest, as that of a journal before it did.
-    #[error("a second guest")]
     SecondGuest,
     /// The world has another number of hosts than that of the journal whose host began with the guest.
-    #[error("of another number of hosts")]
     OtherHosts,
     /// The header tells another number of the world than that of the journal whose host began with the guest.
-    #[error("of another world")]
     OtherWorld,
     /// The journal begins with the guest of another image.
-    #[error("the image is another one")]
     OtherImage,
     /// The guest with which the journal begins cannot be loaded from the image.
-    #[error("{0}")]
     Image(Refused),
     /// A line tells nothing, or the journal is too long.
-    #[error("{0}")]
     Journal(JournalFault),
+}
+
+impl fmt::Display for FileFault {
+    ghost use Rattle.std.specs.Prelude.{Some};
+    ghost use Rattle.rvm_host_command.specs.FileFaults.{fault_text};
+
+    ghost output = { λ fault. Some (fault_text fault) };
+
+    fn fmt<W: fmt::Write>(&self, f: &mut fmt::Formatter<W>) -> fmt::Result {
+        match *self {
+            FileFault::NoHeader => write!(f, "line 1: no header of a journal"),
+            FileFault::SameHost(letter) => write!(f, "a second journal of host {letter}"),
+            FileFault::SecondGuest => write!(f, "a second guest"),
+            FileFault::OtherHosts => write!(f, "of another number of hosts"),
+            FileFault::OtherWorld => write!(f, "of another world"),
+            FileFault::OtherImage => write!(f, "the image is another one"),
+            FileFault::Image(refused) => write!(f, "{refused}"),
+            FileFault::Journal(fault) => write!(f, "{fault}"),
+        }
+    }
 }
 
 /// Why journals are not audited.
