@@ -3,7 +3,7 @@
 ghost use Rattle.std.specs.Prelude.{◌≡◌, ◌≢◌, ◌≤◌, ◌⊎◌, IfErr, IfOk, true};
 ghost use Rattle.rvm_host_command.specs.Hosted.{HasBegun, IsGuestOf, IsHosted, IsHostedTo, IsNamed, host_status, status_told};
 ghost use Rattle.std.specs.Option.{option_and_then};
-ghost use Rattle.rvm_cell.specs.Logs.{IsEmpty};
+ghost use Rattle.rvm_recorder.specs.Logs.{IsEmpty};
 ghost use Rattle.rvm_cell.specs.declared.host_harts.HartsEnd.TheVariants.{ConsoleFault};
 
 use crate::address::{checked_address, is_path, listen_at, listen_for_operators};

@@ -1,7 +1,7 @@
 //! What is kept of the events that happen at a host, for whoever reads them later.
 
 ghost use Rattle.std.specs.Prelude.{◌∷◌, [], List, Option, None};
-ghost use Rattle.rvm_cell.specs.Logs.{KeepsOn, steps_from};
+ghost use Rattle.rvm_recorder.specs.Logs.{KeepsOn, steps_from};
 ghost use Rattle.rvm_message.specs.declared.event.HostEvent.{HostEvent};
 ghost use Rattle.rvm_message.specs.declared.event.HostEvent.TheVariants.{Came, Do};
 
