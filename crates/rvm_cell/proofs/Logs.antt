@@ -18,6 +18,7 @@ use Rattle.rvm_message.specs.Exchanges.{step_of_hart}
 use Rattle.rvm_message.specs.Steps.{reply_to_step}
 use Rattle.rvm_cell.specs.Events.{IsReached, next_at}
 use Rattle.rvm_recorder.specs.Logs.{IsEmpty, KeepsOn, steps_from}
+use Rattle.rvm_recorder.proofs.Logs.{steps_more}
 use Rattle.rvm_cell.specs.Logs.{IsLogged, IsTold, made_in, steps_to}
 use Rattle.rvm_cell.proofs.Events as events
 
@@ -40,19 +41,6 @@ both o old between new es fs first second =
     ∙ ap (λ l. fold (next_at o) (host_of old) l) (sym (map-append event_of es fs))))
 
 -- TURNS
-
--- one turn more
-steps_more : (turn harts n : ℕ)
-    → steps_from turn harts (suc n) ≡ steps_from turn harts n ++ step_of_hart ((turn + n) % harts) ∷ []
-unfolding steps_from
-steps_more turn harts zero =
-    let here : turn ≡ turn + 0 = omega arith in
-    ap (λ k. step_of_hart (k % harts) ∷ []) here
-steps_more turn harts (suc n) =
-    let there : (turn + 1) + n ≡ turn + suc n = omega arith in
-    ap (λ l. step_of_hart (turn % harts) ∷ l)
-    (steps_more (turn + 1) harts n
-    ∙ ap (λ k. steps_from (turn + 1) harts n ++ step_of_hart (k % harts) ∷ []) there)
 
 -- one turn
 pub one_step : (turn harts : ℕ) → steps_from turn harts 1 ≡ step_of_hart (turn % harts) ∷ []

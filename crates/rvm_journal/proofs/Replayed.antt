@@ -9,7 +9,10 @@ use Rattle.std.proofs.lemmas.List.{append-nil, length-map, map-append}
 use Rattle.std.proofs.lemmas.Option.{same_Some}
 use Rattle.hex.specs.Hex.{decode_of}
 use Rattle.hex.specs.declared.error.FromHexError.{FromHexError}
+use Rattle.rvm_recorder.specs.Errors.{IsRecordError}
+use Rattle.rvm_recorder.specs.Items.{entries_in, last_of, one_if, step_entry, steps_in_turn}
 use Rattle.rvm_recorder.specs.Logs.{steps_from}
+use Rattle.rvm_recorder.proofs.Logs.{steps_more}
 use Rattle.rvm_core.specs.WorldLines.{world_line_of}
 use Rattle.rvm_debug.specs.Lines.{numeral}
 use Rattle.rvm_debug.specs.Words.{lines, words}
@@ -19,20 +22,20 @@ use Rattle.rvm_frame.specs.Grammar.{Received}
 use Rattle.rvm_frame.specs.Verdict.{one_frame_of, verdict}
 use Rattle.rvm_message.specs.declared.event.Command.{Command}
 use Rattle.rvm_message.specs.declared.event.HostEvent.{HostEvent}
-use Rattle.rvm_message.specs.declared.reply.HostReply.{HostReply}
+use Rattle.rvm_message.specs.declared.step.StepReply.{StepReply}
 use Rattle.rvm_message.specs.Exchanges.{step_of_hart}
 use Rattle.rvm_recorder.specs.declared.error.RecordError.{RecordError}
 use Rattle.rvm_recorder.specs.declared.error.RecordError.TheVariants as record_error
 use Rattle.rvm_recorder.specs.Entries.{PlainEntry}
-use Rattle.rvm_recorder.specs.History.{Recording, count_of, with_entries, with_room}
-use Rattle.rvm_recorder.specs.Slices.{IsSliceRecorded, most_of, step_of}
+use Rattle.rvm_recorder.specs.History.{Recording, count_of, with_entries}
+use Rattle.rvm_recorder.specs.Slices.{AreTurnsRecorded}
 use Rattle.rvm_journal.specs.declared.noted.Noted.{Noted}
 use Rattle.rvm_journal.specs.declared.noted.Noted.TheVariants.{Turns, Command as Commanded, Came, End}
 use Rattle.rvm_journal.specs.declared.replay.JournalFault.{JournalFault}
 use Rattle.rvm_journal.specs.declared.replay.JournalFault.TheVariants as fault
 use Rattle.rvm_journal.specs.Headers.{first_header, header_at, header_in_line}
 use Rattle.rvm_journal.specs.Noting.{bytes_noted, came_noted, command_in, end_noted, events_of, frame_noted, noted_by, noted_of, run_if, turns_noted}
-use Rattle.rvm_journal.specs.Replaying.{AreFewer, HasHarts, HasMore, IsJournalFault, IsLineFault, IsReplayedTo, IsRoomFault, IsSpent, IsWanted, LacksHeader, LacksRoom, Records, events_in, first_of, left_of, noted_at, room_of}
+use Rattle.rvm_journal.specs.Replaying.{AreFewer, HasHarts, HasMore, IsFull, IsJournalFault, IsLineFault, IsReplayedTo, IsRoomFault, IsSpent, IsWanted, LacksHeader, LacksRoom, Records, events_in, first_of, left_of, noted_at, room_of}
 use Rattle.rvm_journal.specs.Told.{Told, at_header, digest_after, digest_behind, header_told, mark, no_digest, text_in, told_by, told_in, told_of}
 use Rattle.rvm_journal.proofs.Adding.{behind_header, one_told}
 use Rattle.rvm_journal.proofs.Runs.{how_many, joined, of_turn}
@@ -168,45 +171,47 @@ pub handed_on : {A E : Type 0} (P : E → Type 0) (x : E) (r : Result A E) → I
 handed_on P x (Ok a) none has = absurd none
 handed_on P x (Err e) same has = subst P (sym same) has
 
--- slices
-steps_of_slice : (xs : List PlainEntry) (turn harts : ℕ)
-    → ((k : ℕ) (x : PlainEntry) → slice_get xs k ≡ Some x → x.event ≡ step_of (turn + k) harts)
-    → events_in xs ≡ steps_from turn harts (length xs)
-unfolding steps_from
-steps_of_slice [] turn harts each = refl
-steps_of_slice (x ∷ xs) turn harts each =
-    let here : turn + 0 ≡ turn = omega arith in
-    let first : x.event ≡ step_of_hart (turn % harts) = each 0 x refl ∙ ap (λ t. step_of t harts) here in
-    ap (λ e. e ∷ events_in xs) first
-    ∙ ap (λ l. step_of_hart (turn % harts) ∷ l) (steps_of_slice xs (turn + 1) harts
-    (λ k y at. let next : turn + suc k ≡ turn + 1 + k = omega arith in each (suc k) y at ∙ ap (λ t. step_of t harts) next))
+-- turns
+all_steps : (turn harts n : ℕ) → events_in (steps_in_turn turn harts n) ≡ steps_from turn harts n
+unfolding steps_in_turn steps_from
+all_steps turn harts zero = refl
+all_steps turn harts (suc n) = ap (λ l. step_of_hart (turn % harts) ∷ l) (all_steps (turn + 1) harts n)
 
-pub of_slice : (old new : Recording) (turn harts n made : ℕ) (answer : ℕ × List HostReply)
-    → IsSliceRecorded old turn harts n answer new → made ≡ count_of new - count_of old
-    → Records old (steps_from turn harts made) new × (1 ≤ made) × (made ≤ n)
-of_slice old new turn harts n made answer done made_is =
-    let slice = done.steps in
-    let xs = slice.entries in
-    let room = with_room old (most_of old n) in
-    let left = room.journal.reserved - length xs in
-    let longer : count_of new ≡ count_of old + length xs =
-    ap (λ r. length r.journal.entries) slice.next ∙ length-append old.journal.entries xs in
-    let made_all : made ≡ length xs = omega (arith, made_is, longer) in
-    let told = added room xs left new slice.next in
-    let steps : events_in xs ≡ steps_from turn harts made =
-    steps_of_slice xs turn harts slice.slice.events ∙ ap (steps_from turn harts) (sym made_all) in
-    let some = slice.slice.some in
-    let bound = slice.slice.bound in (
-      record {
-        opening = told.opening;
-        events = told.events ∙ ap (λ l. events_in old.journal.entries ++ l) steps;
-        capacity = told.capacity;
-      },
-      omega (arith, some, made_all),
-      omega (arith, bound, made_all),
-    )
+all_turns : (turn harts n : ℕ) (last : Option StepReply)
+    → events_in (steps_in_turn turn harts n ++ last_of (turn + n) harts last) ≡ steps_from turn harts (n + one_if last)
+all_turns turn harts n None =
+    let all : n ≡ n + 0 = omega arith in
+    ap events_in (append-nil (steps_in_turn turn harts n)) ∙ all_steps turn harts n ∙ ap (steps_from turn harts) all
+all_turns turn harts n (Some r) =
+    let more : suc n ≡ n + 1 = omega arith in
+    map-append (λ x. x.event) (steps_in_turn turn harts n) (step_entry (turn + n) harts r ∷ [])
+    ∙ ap (λ l. l ++ step_of_hart ((turn + n) % harts) ∷ []) (all_steps turn harts n)
+    ∙ sym (steps_more turn harts n) ∙ ap (steps_from turn harts) more
 
--- turns that are taken in slices
+pub of_turns : (old new : Recording) (turn harts made : ℕ) → AreTurnsRecorded old turn harts made new
+    → Records old (steps_from turn harts made) new
+of_turns old new turn harts made done =
+    let run = done.run in
+    let told = added old (entries_in turn harts run) done.room new done.next in
+    let steps = all_turns turn harts run.retired run.last ∙ ap (steps_from turn harts) done.count in
+    record {
+      opening = told.opening;
+      events = told.events ∙ ap (λ l. events_in old.journal.entries ++ l) steps;
+      capacity = told.capacity;
+    }
+
+-- a recorder that refuses turns has no room for one
+pub lacks_room : (why : RecordError) (r : Recording) → IsRecordError why (count_of r) r.capacity → LacksRoom why r 1
+lacks_room record_error.OutOfMemory r is = tt
+lacks_room (record_error.RecorderFull c) r is =
+    let full : count_of r ≡ r.capacity = is.1 in
+    omega (arith, full)
+
+pub is_full : (why : RecordError) (r : Recording) → IsRecordError why (count_of r) r.capacity → IsFull why r
+is_full record_error.OutOfMemory r is = tt
+is_full (record_error.RecorderFull c) r is = is.1
+
+-- turns that are taken one run after the other
 pub record Turned (first harts count left turn : ℕ) (old now : Recording) : Type 0 where
   pub taken : ℕ
   pub all : taken + left ≡ count

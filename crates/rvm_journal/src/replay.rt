@@ -19,7 +19,7 @@ use rvm_debug::split_line;
 use rvm_frame::Frame;
 use rvm_mem::PagedMemory;
 use rvm_message::{HostEvent, Shared};
-use rvm_recorder::{MAX_SLICE, RecordError, Recorded, SliceError};
+use rvm_recorder::{RecordError, Recorded};
 use std::alloc::{AllocError, Global};
 use std::fmt;
 
@@ -312,8 +312,7 @@ fn do_event<M: PagedMemory + Drop>(
     }
 }
 
-/// Has the harts of a recorded host take turns, in slices that the journal keeps as one item if each retires an
-/// instruction.
+/// Has the harts of a recorded host take turns. The journal keeps them as one item if each retires an instruction.
 fn do_turns<M: PagedMemory + Drop>(
     alloc: Global,
     run: Run,
@@ -329,7 +328,7 @@ fn do_turns<M: PagedMemory + Drop>(
     let mut turn = run.first;
     let mut left = run.count;
     while left > 0 {
-        let made = do_slice(alloc, turn, harts, left, recorded)?;
+        let made = do_some(alloc, turn, harts, left, recorded)?;
         turn = turn_behind(turn, made, harts);
         left -= made;
     }
@@ -337,8 +336,8 @@ fn do_turns<M: PagedMemory + Drop>(
 }
 
 /// Has harts take turns, from turn `turn` on: at least one of this many. Returns how many they took.
-#[tactic(auto, using(crate::proofs::Replayed::of_slice))]
-fn do_slice<M: PagedMemory + Drop>(
+#[tactic(auto, using(crate::proofs::Replayed::of_turns, crate::proofs::Replayed::lacks_room, crate::proofs::Replayed::is_full))]
+fn do_some<M: PagedMemory + Drop>(
     alloc: Global,
     turn: u32,
     harts: u32,
@@ -353,12 +352,8 @@ fn do_slice<M: PagedMemory + Drop>(
     ensures full { IfErr result (λ why. IsFull why recorded.new) }
     ensures same { OnErr result (recorded.new ≡ recorded.old) }
 {
-    let before = recorded.count();
-    match recorded.record_slice(alloc, turn, harts, count.min(MAX_SLICE)) {
-        Ok(_) => Ok(recorded.count() - before),
-        Err(SliceError::RecorderFull(capacity)) => Err(RecordError::RecorderFull(capacity)),
-        Err(_) => Err(RecordError::OutOfMemory),
-    }
+    let made = recorded.record_turns(alloc, turn, harts, count)?;
+    Ok(made)
 }
 
 /// The number of the turn that comes `made` turns after turn `turn`; if it is too large, that of an earlier turn of the

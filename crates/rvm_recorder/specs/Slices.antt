@@ -2,6 +2,8 @@
 use Rattle.std.specs.Prelude.{◌≡◌, ℕ, suc, ◌+◌, ◌-◌, ◌%◌, ◌<◌, ◌≤◌, min, true, false, List, length, map, slice_get, Some, None}
 use Rattle.rvm_recorder.specs.Entries.{PlainEntry}
 use Rattle.rvm_recorder.specs.History.{Recording, count_of, with_entries, with_room}
+use Rattle.rvm_recorder.specs.Items.{entries_in, steps_of}
+use Rattle.rvm_recorder.specs.declared.run.StepRun.{StepRun}
 use Rattle.rvm_message.specs.declared.event.HostEvent.{HostEvent}
 use Rattle.rvm_message.specs.declared.reply.HostReply.{HostReply}
 use Rattle.rvm_message.specs.declared.step.StepReply.{StepReply}
@@ -46,3 +48,11 @@ pub record IsSliceRecorded (old : Recording) (turn harts n : ℕ) (answer : ℕ 
     : Type 0 where
   pub place : answer.0 ≡ count_of old
   pub steps : IsSteps (with_room old (most_of old n)) turn harts (most_of old n) answer.1 new
+
+-- this many steps of harts in turn were recorded, of which only the last may not have retired an instruction; nothing else
+-- changed but the room for later entries
+pub record AreTurnsRecorded (old : Recording) (turn harts made : ℕ) (new : Recording) : Type 0 where
+  pub run : StepRun
+  pub room : ℕ
+  pub count : steps_of run ≡ made
+  pub next : new ≡ with_entries old (entries_in turn harts run) room

@@ -2,12 +2,12 @@
 
 ghost use Rattle.std.specs.Prelude.{◌≡◌, ◌↔◌, ◌+◌, ◌-◌, ◌%◌, ◌<◌, ◌≤◌, ◌^◌, [], length, IfOk, IfErr, IsTrue, None, OnErr, OnOk, vec_capacity};
 ghost use Rattle.rvm_recorder.specs.declared.error.SliceError.TheVariants.{OutOfMemory};
-ghost use Rattle.rvm_recorder.specs.Errors.{IsSized, IsSliceError};
+ghost use Rattle.rvm_recorder.specs.Errors.{IsRecordError, IsSized, IsSliceError};
 ghost use Rattle.rvm_recorder.specs.History.{count_of, with_entries, with_room};
 ghost use Rattle.rvm_recorder.specs.Items.{entries_in, replies_of_all, steps_of};
-ghost use Rattle.rvm_recorder.specs.Slices.{IsSliceRecorded, IsSteps, most_of, replies_to};
+ghost use Rattle.rvm_recorder.specs.Slices.{AreTurnsRecorded, IsSliceRecorded, IsSteps, most_of, replies_to};
 
-use crate::error::SliceError;
+use crate::error::{RecordError, SliceError};
 use crate::recorded::Recorded;
 use crate::run::StepRun;
 use rvm_board::MAX_HARTS;
@@ -16,6 +16,9 @@ use std::alloc::Global;
 
 /// The most steps of a slice.
 pub const MAX_SLICE: u32 = 64;
+
+/// The most turns for which room is made at once.
+const MOST_TURNS: u32 = 1024;
 
 impl<M: PagedMemory + Drop> Recorded<M> {
     /// Makes steps of harts in turn, from a turn on, and records them as if each were recorded by itself: at most n
@@ -43,6 +46,35 @@ impl<M: PagedMemory + Drop> Recorded<M> {
         let replies = self.room_for_replies(alloc, most)?;
         let replies = self.record_steps(turn, harts, most, replies);
         Ok((place, replies))
+    }
+
+    /// Records steps of harts in turn, from turn `turn` on: at least one, at most `most`, and at most 1024, up to the first
+    /// that does not retire an instruction. Returns how many. If memory runs out or the journal is full, records nothing.
+    pub fn record_turns(
+        &mut self,
+        alloc: Global,
+        turn: u32,
+        harts: u32,
+        most: u32,
+    ) -> Result<u32, RecordError>
+        requires harts { 1 ≤ harts }
+        requires some { 1 ≤ most }
+        ensures turns { IfOk result (λ made. AreTurnsRecorded self.old turn harts made self.new) }
+        ensures made { IfOk result (λ made. (1 ≤ made) × (made ≤ most)) }
+        ensures err { OnErr result (self.new ≡ self.old) }
+        ensures fault { IfErr result (λ e. IsRecordError e (count_of self.old) self.old.capacity) }
+    {
+        let place = self.count();
+        let capacity = self.capacity();
+        if place >= capacity {
+            return Err(RecordError::RecorderFull(capacity));
+        }
+        let most = most.min(MOST_TURNS).min(capacity - place);
+        if self.reserve(alloc, most).is_err() {
+            return Err(RecordError::OutOfMemory);
+        }
+        let run = self.record_run(u64::from(turn), harts, most);
+        Ok(run.count())
     }
 
     /// Makes room for a slice of n steps, and returns how many of them may be made. If the slice is out of range, memory
