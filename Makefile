@@ -18,12 +18,13 @@ PREFIX ?= /usr/local
 
 # The program lies in build/rvmove afterwards.
 build:
-	cd crates/rvmove && rt run -- --help > /dev/null
+	cd crates/rvm_program && rt lib
+	tools/with-commit sh -c 'cd crates/rvmove && rt run -- --help > /dev/null'
 	mkdir -p build
 	cp crates/rvmove/out/rvmove build/rvmove
 
 hi:
-	cd crates/rvmove && rt try --data hi.bin=../../examples/hi.bin -- run hi.bin --raw
+	tools/with-commit sh -c 'cd crates/rvmove && rt try --data hi.bin=../../examples/hi.bin -- run hi.bin --raw'
 	@echo 'This build is not proved. make build proves the program, and puts it into build/.' >&2
 
 test:

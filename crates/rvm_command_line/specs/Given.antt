@@ -2,7 +2,11 @@
 use Rattle.std.specs.Prelude.{◌≡◌, ◌≤◌, ◌+◌, ◌*◌, ◌%◌, ℕ, Bool, true, false, [], ◌∷◌, Option, Some, None, option_map, map, codes}
 use Rattle.std.specs.Str.Parse.{IsNumeral, digits_value}
 use Rattle.clap.specs.Walk.{Row, Text, all_of, first_of, one_of}
-use Rattle.std.specs.Prelude.{List}
+use Rattle.std.specs.Prelude.{List, find}
+use Rattle.std.specs.Prelude.{option_and_then}
+use Rattle.std.specs.Str.{bytes_eq}
+use Rattle.clap.specs.declared.parser.matches.ValueSource.{ValueSource}
+use Rattle.clap.specs.declared.parser.matches.ValueSource.TheVariants.{CommandLine}
 use Rattle.rvm_arguments.specs.declared.arguments.Arguments.{Arguments}
 use Rattle.rvm_arguments.specs.declared.arguments.Arguments.TheVariants.{Run, Asm, Dis, Debug, Script, Move, Audit, Host, Tell, Replay, AuditJournals}
 use Rattle.rvm_arguments.specs.declared.arguments.AuditJournalsArguments.{AuditJournalsArguments}
@@ -138,9 +142,24 @@ pub record IsMove (rows : List Row) (asked : MoveArguments) : Type 0 where
   pub stream : IsNumber (first_of (codes "stream") rows) asked.stream
   pub verdict : IsFlag (one_of (codes "verdict") rows) asked.verdict
 
+-- a value came from the words, and is no default
+abbrev pub is_from_words : Option ValueSource → Bool
+is_from_words (Some CommandLine) = true
+is_from_words _ = false
+
+-- whether an option stands among the words
+abbrev pub is_given : (option : Text) → List Row → Bool
+is_given option rows = is_from_words (option_and_then (λ r. r.source) (find (λ r. bytes_eq r.id option) rows))
+
+-- no image was named, and no word says anything of a guest
+abbrev pub HasNoGuest : List Row → Type 0
+HasNoGuest rows =
+    (first_of (codes "image") rows ≡ None) × (is_given (codes "raw") rows ≡ false)
+    × (is_given (codes "harts") rows ≡ false) × (is_given (codes "pages") rows ≡ false)
+
 -- there is a guest if and only if an image was named, and it is the guest of that image
 abbrev pub IsOptionalGuest : List Row → Option GuestArguments → Type 0
-IsOptionalGuest rows None = first_of (codes "image") rows ≡ None
+IsOptionalGuest rows None = HasNoGuest rows
 IsOptionalGuest rows (Some guest) = IsGuest rows guest
 
 -- a host: its name, its guest if it has one, where it is reached, how long it waits, and what its status tells

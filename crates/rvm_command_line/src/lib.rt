@@ -9,4 +9,5 @@
 mod program;
 mod reading;
 
+pub use program::VERSION;
 pub use reading::{MAX_STEPS, parse_args, word_fault};

@@ -13,7 +13,7 @@ use clap::{Arg, ArgAction, Command, Error};
 use std::alloc::Global;
 
 /// The version of the program.
-const VERSION: &str = "0.1.0";
+pub const VERSION: &str = "0.1.0";
 
 /// What the program does, in its help.
 const ABOUT: &str = "\

@@ -8,13 +8,14 @@ ghost use Rattle.clap.specs.Simple.{app_of, subcommand_of, subcommand_rows_of};
 ghost use Rattle.clap.specs.Walk.{all_of, first_of, one_of, rows_of};
 ghost use Rattle.clap.specs.Words.{kind_of};
 ghost use Rattle.clap.specs.declared.error.kind.ErrorKind.TheVariants as kind;
-ghost use Rattle.rvm_command_line.specs.Given.{Gives, IsAsked, IsAuditJournals, IsExplained, IsFlag, IsGuest, IsHost, IsInRam, IsMove, IsNumber, IsNumberOr, IsOptionalGuest, IsOptionalNumber, IsReplay, IsReport, IsSignature, IsStatusOf, IsTell, IsTrace};
+ghost use Rattle.rvm_command_line.specs.Given.{Gives, IsAsked, IsAuditJournals, IsExplained, IsFlag, IsGuest, IsHost, IsInRam, IsMove, IsNumber, IsNumberOr, IsOptionalGuest, IsOptionalNumber, IsReplay, IsReport, IsSignature, IsStatusOf, IsTell, IsTrace, is_from_words, is_given};
 ghost use Rattle.rvm_text.specs.Numbers.{number_of};
 ghost use Rattle.rvm_command_line.specs.Program.{faults_of, program};
 
 use crate::program::program;
 use arrayvec::ArrayVec;
 use clap::error::ErrorKind;
+use clap::parser::ValueSource;
 use clap::{ArgMatches, Command, Error};
 use rvm_arguments::{
     Arguments, AsmArguments, AuditJournalsArguments, CommandLine, DebugArguments, DisArguments,
@@ -528,16 +529,33 @@ fn read_journal<'a>(host: &ArgMatches<'a>) -> Result<Option<&'a str>, &'static s
 }
 
 /// The guest of a command, if an image is named. Fails with a text that says which of its arguments is not what it must
-/// be.
+/// be, or is given without an image.
 fn read_optional_guest<'a>(
     command: &ArgMatches<'a>,
 ) -> Result<Option<GuestArguments<'a>>, &'static str>
     ensures { IfOk result (IsOptionalGuest (rows_of (found_of command.now))) }
 {
     if text(command, "image").is_none() {
-        return Ok(None);
+        return read_no_guest(command);
     }
     Ok(Some(read_guest(command)?))
+}
+
+/// That no guest is asked for. Fails with a text if an option of a guest is given, for which no image is named.
+fn read_no_guest<'a>(command: &ArgMatches<'a>) -> Result<Option<GuestArguments<'a>>, &'static str>
+    requires { first_of (codes "image") (rows_of (found_of command.now)) ≡ None }
+    ensures { IfOk result (IsOptionalGuest (rows_of (found_of command.now))) }
+{
+    if is_given(command, "raw") {
+        return Err("--raw wants IMAGE");
+    }
+    if is_given(command, "harts") {
+        return Err("--harts wants IMAGE");
+    }
+    if is_given(command, "pages") {
+        return Err("--pages wants IMAGE");
+    }
+    Ok(None)
 }
 
 /// The arguments of `tell`. Fails with a text that says which of them is not what it must be.
@@ -637,6 +655,24 @@ fn flag(command: &ArgMatches, option: &str) -> bool
     ensures { IsFlag (one_of option.now (rows_of (found_of command.now))) result }
 {
     command.get_flag(option)
+}
+
+/// Whether an option stands among the words. One that has its default does not.
+#[tactic(auto, using(crate::proofs::Rows::given_row))]
+fn is_given(command: &ArgMatches, option: &str) -> bool
+    ensures { result ≡ is_given option.now (rows_of (found_of command.now)) }
+{
+    is_from_words(command.value_source(option))
+}
+
+/// Whether a value came from the words. A default did not.
+fn is_from_words(source: Option<ValueSource>) -> bool
+    ensures { result ≡ is_from_words source }
+{
+    match source {
+        Some(ValueSource::CommandLine) => true,
+        _ => false,
+    }
 }
 
 /// The number of an option, from `least` to `most`. `None` if it has none: its text has a sign, even a plus sign, or

@@ -1,7 +1,8 @@
 -- Hosts that files name.
-use Rattle.std.proofs.Common.{◌≡◌, [], ◌∷◌, None, Some, codes, refl}
+use Rattle.std.proofs.Common.{◌≡◌, [], ◌∷◌, None, Some, codes, false, refl}
 use Rattle.rvm_debug.specs.Words.{lines, lines_from, words_from}
-use Rattle.rvm_greeting.specs.Peers.{IsFirstFault, peers_in}
+use Rattle.rvm_greeting.specs.declared.peers.PeersFault.TheVariants.{SameAddress}
+use Rattle.rvm_greeting.specs.Peers.{IsFirstFault, IsLineFault, is_repeat_at, peers_in}
 
 two_hosts : peers_in (lines (codes "A 10.0.0.1:7001\nB 10.0.0.2:7001\n"))
     ≡ Some (codes "10.0.0.1:7001" ∷ codes "10.0.0.2:7001" ∷ [])
@@ -40,6 +41,11 @@ no_letter_comes_again : peers_in (lines (codes "A here:1\nA there:1\n")) ≡ Non
 unfolding lines_from words_from
 no_letter_comes_again = refl
 
+-- an address names one host
+no_address_comes_again : peers_in (lines (codes "A here:1\nB here:1\n")) ≡ None
+unfolding lines_from words_from
+no_address_comes_again = refl
+
 letters_are_large : peers_in (lines (codes "a here:1\nb there:1\n")) ≡ None
 unfolding lines_from words_from
 letters_are_large = refl
@@ -65,3 +71,12 @@ a_letter_alone_names_no_host = refl
 the_first_fault_is_told : IsFirstFault 3 (lines (codes "# hosts\nA here:1\nC there:1\nc\n"))
 unfolding lines_from words_from
 the_first_fault_is_told = record { before = refl; here = refl }
+
+the_bad_line_repeats_no_address : is_repeat_at 3 (lines (codes "# hosts\nA here:1\nC there:1\nc\n")) ≡ false
+unfolding lines_from words_from
+the_bad_line_repeats_no_address = refl
+
+-- the line of the second host at an address is the fault
+the_second_of_one_address_is_told : IsLineFault (SameAddress 4) (lines (codes "A here:1\n#\nB there:1\nC here:1\n"))
+unfolding lines_from words_from
+the_second_of_one_address_is_told = (record { before = refl; here = refl }, refl)

@@ -1,8 +1,10 @@
 //! The hosts that the lines of a file of peers name.
 
-ghost use Rattle.std.specs.Prelude.{◌≡◌, ◌≤◌, ◌<◌, ◌↔◌, ℕ, Some, Err, length, map, slice_get, IfOk, IfErr, IfSome, IfNone, IsSomeAnd};
+ghost use Rattle.std.specs.Prelude.{◌≡◌, ◌≤◌, ◌<◌, ◌↔◌, ℕ, Some, Err, length, map, slice_get, IfOk, IfErr, IfSome, IfNone, IsSomeAnd, false, true};
+ghost use Rattle.std.specs.List.{list_any};
+ghost use Rattle.std.specs.Str.{bytes_eq};
 ghost use Rattle.rvm_debug.specs.Words.{lines};
-ghost use Rattle.rvm_greeting.specs.Peers.{IsFirstFault, peers_in};
+ghost use Rattle.rvm_greeting.specs.Peers.{IsFirstFault, IsLineFault, is_repeat_at, peers_in};
 ghost use Rattle.rvm_greeting.specs.declared.peers.PeersFault.TheVariants as fault;
 
 use crate::peer_line::{MAX_PEERS, Named, read_line};
@@ -38,6 +40,9 @@ pub enum PeersFault {
     /// The line with this number, counted from 1, names no host, or not the next one.
     #[error("line {0} names no host, or not the next one")]
     BadLine(usize),
+    /// The line with this number, counted from 1, names the next host, at the address of a host before it.
+    #[error("line {0}: a host before it has this address")]
+    SameAddress(usize),
     /// The lines name fewer than two hosts.
     #[error("fewer than two hosts")]
     TooFew,
@@ -53,13 +58,16 @@ impl From<AllocError> for PeersFault {
 
 /// Reads from the text of a file which hosts a world has.
 ///
-/// `BadLine` with the number of the first line that names no host, or not the next one; `TooFew` if the lines name
-/// fewer than two hosts. Both are found before any memory is allocated: `OutOfMemory` means that the text names a
-/// world.
+/// The first line that is a fault is told by its number: `BadLine` if it names no host, or not the next one, and
+/// `SameAddress` if it names the next one at the address of a host before it. `TooFew` if the lines name fewer than two
+/// hosts. All these are found before any memory is allocated: `OutOfMemory` means that the text names a world.
 #[tactic(auto, using(crate::proofs::Naming::faults))]
 pub fn read_peers(alloc: Global, text: &[u8]) -> Result<Peers, PeersFault>
     ensures peers { IfOk result (λ p. (peers_in (lines text.now) ≡ Some p) × (2 ≤ length p)) }
-    ensures bad_line { (n : ℕ) → (result ≡ Err (fault.BadLine n)) ↔ IsFirstFault n (lines text.now) }
+    ensures bad_line { (n : ℕ) → (result ≡ Err (fault.BadLine n))
+        ↔ (IsFirstFault n (lines text.now) × (is_repeat_at n (lines text.now) ≡ false)) }
+    ensures same_address { (n : ℕ) → (result ≡ Err (fault.SameAddress n))
+        ↔ (IsFirstFault n (lines text.now) × (is_repeat_at n (lines text.now) ≡ true)) }
     ensures too_few { (result ≡ Err fault.TooFew)
         ↔ IsSomeAnd (peers_in (lines text.now)) (λ p. length p < 2) }
     ensures memory { result ≡ Err fault.OutOfMemory
@@ -67,7 +75,7 @@ pub fn read_peers(alloc: Global, text: &[u8]) -> Result<Peers, PeersFault>
 {
     let addresses = match addresses_in(text) {
         Ok(addresses) => addresses,
-        Err(number) => return Err(PeersFault::BadLine(number)),
+        Err(fault) => return Err(fault),
     };
     if addresses.len() < 2 {
         return Err(PeersFault::TooFew);
@@ -76,10 +84,10 @@ pub fn read_peers(alloc: Global, text: &[u8]) -> Result<Peers, PeersFault>
     Ok(Peers { addresses })
 }
 
-/// The addresses of the hosts that the lines of a text name, or the number of the first line that is a fault.
-fn addresses_in(text: &[u8]) -> Result<ArrayVec<&[u8], MAX_PEERS>, usize>
+/// The addresses of the hosts that the lines of a text name. Fails with the first line that is a fault.
+fn addresses_in(text: &[u8]) -> Result<ArrayVec<&[u8], MAX_PEERS>, PeersFault>
     ensures peers { IfOk result (λ v. peers_in (lines text.now) ≡ Some (map (λ a. a.now) v.items)) }
-    ensures fault { IfErr result (λ n. IsFirstFault n (lines text.now)) }
+    ensures fault { IfErr result (λ fault. IsLineFault fault (lines text.now)) }
 {
     let mut addresses = ArrayVec::new();
     let mut rest = text;
@@ -89,12 +97,24 @@ fn addresses_in(text: &[u8]) -> Result<ArrayVec<&[u8], MAX_PEERS>, usize>
         number += 1;
         match read_line(line, addresses.len()) {
             Named::Nothing => {}
-            Named::Host(address) => addresses.push(address),
-            Named::Fault => return Err(number),
+            Named::Host(address) => {
+                if is_taken(&addresses, address) {
+                    return Err(PeersFault::SameAddress(number));
+                }
+                addresses.push(address);
+            }
+            Named::Fault => return Err(PeersFault::BadLine(number)),
         }
         rest = after;
     }
     Ok(addresses)
+}
+
+/// Whether this is one of the addresses.
+fn is_taken(addresses: &[&[u8]], address: &[u8]) -> bool
+    ensures { result ≡ list_any (λ a. bytes_eq a.now address.now) addresses.now }
+{
+    addresses.iter().any(|other| *other == address)
 }
 
 /// Copies of these addresses, in memory of their own.

@@ -1,11 +1,39 @@
 -- What a host answers to the lines that it is told.
-use Rattle.std.proofs.Common.{◌≡◌, ◌≢◌, ◌∙◌, ℕ, zero, suc, ◌==◌, List, [], ◌∷◌, ◌++◌, length, Option, None, Some, ap, refl, subst, sym}
+use Rattle.std.proofs.Common.{◌≡◌, ◌∙◌, ℕ, zero, suc, ◌==◌, List, [], ◌∷◌, ◌++◌, append-nil, length, Option, None, Some, ap, codes, inl, inr, refl, subst, sym}
+use Rattle.std.proofs.lemmas.List.{append_assoc}
 use Rattle.std.specs.Io.BufRead.{drop_through, take_through}
-use Rattle.std.specs.Io.KnownBytes.{IsAtEnd, prepend_known}
+use Rattle.std.specs.Io.KnownBytes.{Appends, IsAtEnd, Keeps, prepend_known}
 use Rattle.std.specs.Prelude.{IfSome, if◌then◌else◌}
-use Rattle.rvm_host_command.specs.Answered.{AreAnswers, AreAnswered, AreBefore, AreLinesFor, GoesOn, Says, all_done, both_done, last_line}
+use Rattle.rvm_refusal.specs.declared.refusal.Refusal.TheVariants.{TooLong}
+use Rattle.rvm_refusal.specs.Refusal.{text_of}
+use Rattle.rvm_host_command.specs.Answered.{AreAnswers, AreAnswered, AreBefore, AreLinesFor, GoesOn, Grows, HasTold, Says, all_done, both_done, last_line}
+use Rattle.rvm_host_command.specs.Lines.{IsLongLine, IsToldLine}
 use Rattle.rvm_host_command.specs.declared.tell_command.Told.{Told}
 use Rattle.rvm_host_command.specs.declared.tell_command.Told.TheVariants.{Done, NotDone}
+
+-- WHAT IS WRITTEN
+
+-- bytes were written, and then more
+pub both_written : (before mid now : Option (List ℕ)) (one more : List ℕ) → Appends before mid one → Appends mid now more
+    → Appends before now (one ++ more)
+both_written None mid now one more first next = tt
+both_written (Some bytes) None now one more first next = absurd first
+both_written (Some bytes) (Some between) None one more first next = absurd next
+both_written (Some bytes) (Some between) (Some after) one more first next =
+    next ∙ ap (λ l. l ++ more) first ∙ append_assoc bytes one more
+
+pub grows_not : (o : Option (List ℕ)) → Grows o o
+grows_not None = ([], tt)
+grows_not (Some bytes) = ([], sym (append-nil bytes))
+
+pub grows_on : (before mid now : Option (List ℕ)) → Grows before mid → Grows mid now → Grows before now
+grows_on before mid now (one, first) (more, next) = (one ++ more, both_written before mid now one more first next)
+
+-- nothing is written
+pub kept : (before now : Option (List ℕ)) → Keeps before now → Grows before now
+kept None now keeps = ([], tt)
+kept (Some bytes) None keeps = absurd keeps
+kept (Some bytes) (Some after) keeps = ([], keeps ∙ sym (append-nil bytes))
 
 -- ONE ANSWER
 
@@ -52,15 +80,6 @@ says_so (Some bytes) last new front line told (n, after, known, before) none is 
       record { lines = n; last = after; before = before; says = sym is ∙ says; rest = refl },
     )
 
--- A LINE TO BE TOLD
-
-pub line_read : (old new : Option (List ℕ)) (line : List ℕ) → (length line ≡ 0 → ⊥) → IfSome old (λ bytes. line ≡ take_through 10 bytes)
-    → IfSome old (λ bytes. new ≡ Some (drop_through 10 bytes))
-    → IfSome old (λ bytes. (bytes ≢ []) × (new ≡ Some (drop_through 10 bytes)))
-line_read None new line some is rest = tt
-line_read (Some []) new line some is rest = absurd (some (subst (λ l. length l ≡ 0) (sym is) refl))
-line_read (Some (b ∷ bytes)) new line some is rest = ((λ e. absurd cc), rest)
-
 -- ALL LINES AND ANSWERS
 
 -- each line so far was answered, and `told` says whether all happened
@@ -88,10 +107,10 @@ none_yet lines answers = record { each = []; asked = itself lines; answered = it
   itself None = tt
   itself (Some bytes) = (bytes, refl, refl)
 
-lines_more : (ts : List Told) (t : Told) (bytes after : List ℕ) → AreLinesFor ts bytes after → after ≢ []
+lines_more : (ts : List Told) (t : Told) (bytes after : List ℕ) → AreLinesFor ts bytes after → IsToldLine after
     → AreLinesFor (ts ++ t ∷ []) bytes (drop_through 10 after)
 lines_more [] t bytes after is some =
-    (subst (λ l. l ≢ []) is some, subst (λ l. drop_through 10 l ≡ drop_through 10 bytes) (sym is) refl)
+    (subst IsToldLine is some, subst (λ l. drop_through 10 l ≡ drop_through 10 bytes) (sym is) refl)
 lines_more (x ∷ ts) t bytes after (first, is) some = (first, lines_more ts t (drop_through 10 bytes) after is some)
 
 answers_more : (ts : List Told) (t : Told) (bytes after last : List ℕ) → AreAnswers ts bytes after → Says t after last
@@ -112,11 +131,11 @@ done_more (x ∷ ts) t = ap (λ (a : Told). both_done a x) (done_more ts t) ∙ 
 
 asked_more : (ts : List Told) (t : Told) (first last new : Option (List ℕ))
     → IfSome first (λ bytes. (after : List ℕ) × (last ≡ Some after) × AreLinesFor ts bytes after)
-    → IfSome last (λ bytes. (bytes ≢ []) × (new ≡ Some (drop_through 10 bytes)))
+    → IfSome last (λ bytes. IsToldLine bytes × (new ≡ Some (drop_through 10 bytes)))
     → IfSome first (λ bytes. (after : List ℕ) × (new ≡ Some after) × AreLinesFor (ts ++ t ∷ []) bytes after)
 asked_more ts t None last new before more = tt
 asked_more ts t (Some bytes) last new (after, known, before) more =
-    let one = subst (λ o. IfSome o (λ l. (l ≢ []) × (new ≡ Some (drop_through 10 l)))) known more in
+    let one = subst (λ o. IfSome o (λ l. IsToldLine l × (new ≡ Some (drop_through 10 l)))) known more in
     (drop_through 10 after, one.1, lines_more ts t bytes after before one.0)
 
 answered_more : (ts : List Told) (t : Told) (first last new : Option (List ℕ))
@@ -131,7 +150,7 @@ answered_more ts t (Some bytes) last new (after, known, before) more =
 -- one more line was answered
 pub one_more : (lines lines_left lines_new answers answers_left answers_new : Option (List ℕ)) (told t : Told)
     → SoFar lines lines_left answers answers_left told
-    → IfSome lines_left (λ bytes. (bytes ≢ []) × (lines_new ≡ Some (drop_through 10 bytes)))
+    → IfSome lines_left (λ bytes. IsToldLine bytes × (lines_new ≡ Some (drop_through 10 bytes)))
     → IfSome answers_left (λ bytes. (after : List ℕ) × (answers_new ≡ Some after) × Says t bytes after)
     → SoFar lines lines_new answers answers_new (both_done told t)
 one_more lines lines_left lines_new answers answers_left answers_new told t so line answer = record {
@@ -155,6 +174,35 @@ all_answered lines lines_left answers answers_left told so ended = record {
   asked_all None is = tt
   asked_all (Some bytes) (after, known, is) =
       subst (λ l. AreLinesFor so.each bytes l) (subst IsAtEnd known ended) is
+
+  answered_all : (o : Option (List ℕ)) → IfSome o (λ bytes. (after : List ℕ) × (answers_left ≡ Some after) × AreAnswers so.each bytes after)
+      → IfSome o (λ bytes. (after : List ℕ) × AreAnswers so.each bytes after)
+  answered_all None is = tt
+  answered_all (Some bytes) (after, known, is) = (after, is)
+
+-- all that was asked happened, or not
+pub all_told : (lines lines_left answers answers_left before shown : Option (List ℕ)) (told : Told)
+    → SoFar lines lines_left answers answers_left told → IsAtEnd lines_left → HasTold lines answers before shown told
+all_told lines lines_left answers answers_left before shown Done so ended =
+    all_answered lines lines_left answers answers_left Done so ended
+all_told lines lines_left answers answers_left before shown NotDone so ended =
+    inl (all_answered lines lines_left answers answers_left NotDone so ended)
+
+-- the next line is too long
+pub cut_short : (lines lines_left answers answers_left before mid shown : Option (List ℕ)) (told : Told)
+    → SoFar lines lines_left answers answers_left told → IfSome lines_left IsLongLine → Grows before mid
+    → Appends mid shown (text_of TooLong ++ codes "\n") → HasTold lines answers before shown NotDone
+cut_short lines lines_left answers answers_left before mid shown told so long (written, grown) reported = inr (record {
+  each = so.each;
+  asked = asked_all lines so.asked;
+  answered = answered_all answers so.answered;
+  written = written;
+  reported = both_written before mid shown written (text_of TooLong ++ codes "\n") grown reported;
+}) where
+  asked_all : (o : Option (List ℕ)) → IfSome o (λ bytes. (after : List ℕ) × (lines_left ≡ Some after) × AreLinesFor so.each bytes after)
+      → IfSome o (λ bytes. (after : List ℕ) × AreLinesFor so.each bytes after × IsLongLine after)
+  asked_all None is = tt
+  asked_all (Some bytes) (after, known, is) = (after, is, subst (λ o. IfSome o IsLongLine) known long)
 
   answered_all : (o : Option (List ℕ)) → IfSome o (λ bytes. (after : List ℕ) × (answers_left ≡ Some after) × AreAnswers so.each bytes after)
       → IfSome o (λ bytes. (after : List ℕ) × AreAnswers so.each bytes after)

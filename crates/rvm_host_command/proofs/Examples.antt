@@ -4,6 +4,7 @@ use Rattle.std.specs.Prelude.{slice_index}
 use Rattle.rvm_cell.specs.declared.host_harts.HartsEnd.TheVariants.{Stopped, Halted, ConsoleFault}
 use Rattle.rvm_host_command.specs.Answered.{AreAnswers, AreAnswered, GoesOn, Says}
 use Rattle.rvm_host_command.specs.Hosted.{host_status}
+use Rattle.rvm_host_command.specs.Lines.{IsToldLine, line_size}
 use Rattle.rvm_host_command.specs.declared.tell_command.Told.TheVariants.{Done, NotDone}
 
 -- texts that differ in their first byte
@@ -54,10 +55,20 @@ pub two_lines_are_answered :
     AreAnswered (Some (codes "move B\nmove B\n")) (Some (codes "progress 1\nmoved 1\nend 0\nend 1\n")) NotDone
 two_lines_are_answered = record {
   each = Done ∷ NotDone ∷ [];
-  asked = ((λ is. absurd cc), ((λ is. absurd cc), refl));
+  asked = (((λ is. absurd cc), omega arith), (((λ is. absurd cc), omega arith), refl));
   answered = ([], both_answers);
   says = refl;
 }
+
+-- the size of a line is that of the first one, without its line feed; a last line may have none
+pub a_line_of_6_bytes : line_size (codes "move B\nstatus now\n") ≡ 6
+a_line_of_6_bytes = refl
+
+pub a_last_line_of_4_bytes : line_size (codes "stop") ≡ 4
+a_last_line_of_4_bytes = refl
+
+pub an_empty_line_is_told : IsToldLine (codes "\n")
+an_empty_line_is_told = ((λ is. absurd cc), omega arith)
 
 -- the status of a host that was ended, with a verdict
 pub a_stop_has_0 : host_status true Stopped ≡ 0

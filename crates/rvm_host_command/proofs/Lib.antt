@@ -1,4 +1,5 @@
 mod Sends
+mod LinesRead
 pub mod Answered
 mod Examples
 pub mod Told

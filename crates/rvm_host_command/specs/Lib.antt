@@ -1,4 +1,5 @@
 pub mod Hosted
 pub mod Told
+pub mod Lines
 pub mod Answered
 pub mod Processes

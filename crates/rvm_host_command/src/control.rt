@@ -3,6 +3,7 @@
 ghost use Rattle.std.specs.Prelude.{◌≤◌, length, IfOk, IfSome};
 
 use crate::answers::{Outcome, answer_line, refuse};
+use crate::next_line::MAX_LINE;
 use crate::operators::Operators;
 use crate::process::Process;
 use rvm_cell::{Access, Hosting};
@@ -12,9 +13,6 @@ use std::net::{Net, OpenStream};
 use std::sync::Wait;
 use std::thread;
 use std::time::{Clock, Duration};
-
-/// The most bytes of a line, without its line feed.
-const MAX_LINE: usize = 1 << 12;
 
 /// The milliseconds between two looks for a connection, and whether the process is to end.
 const LOOK: u64 = 10;

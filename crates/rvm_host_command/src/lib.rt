@@ -8,7 +8,7 @@
 //! and the file of the host's own journal.
 //!
 //! To be read in this order: `fault`, `address`, `outbound`, `timed`, `door`, `process`, `meeting`, `peer`, `accepter`,
-//! `ticker`, `operators`, `answers`, `control`, `threads`, `turns`, `hosting`, `host_command`, `tell_command`;
+//! `ticker`, `operators`, `answers`, `next_line`, `control`, `threads`, `turns`, `hosting`, `host_command`, `tell_command`;
 //! `laws`, which calls no code.
 #![tactic(auto)]
 
@@ -22,6 +22,7 @@ pub mod host_command;
 pub mod hosting;
 pub mod laws;
 mod meeting;
+mod next_line;
 pub mod operators;
 mod outbound;
 mod peer;

@@ -1,12 +1,15 @@
 //! `rvmove tell`: tells a host lines, and writes its answers.
 
-ghost use Rattle.std.specs.Io.BufRead.{drop_through};
-ghost use Rattle.std.specs.Io.KnownBytes.{IsAtEnd};
-ghost use Rattle.std.specs.Prelude.{◌≡◌, ◌≢◌, ◌⊎◌, List, ℕ, [], None, Some, Ok, true, false, IfErr, IfOk, IfSome, IsOkAnd};
-ghost use Rattle.rvm_host_command.specs.Answered.{AreAnswered, GoesOn, Says, both_done, last_line};
+ghost use Rattle.std.specs.Io.KnownBytes.{Appends};
+ghost use Rattle.std.specs.Prelude.{◌≡◌, ◌⊎◌, ◌++◌, List, ℕ, None, Some, IfErr, IfOk, IfSome, IsOkAnd, OnOk, codes};
+ghost use Rattle.rvm_refusal.specs.Refusal.{text_of};
+ghost use Rattle.rvm_refusal.specs.declared.refusal.Refusal.TheVariants as refusal;
+ghost use Rattle.rvm_host_command.specs.Answered.{AreAnswered, GoesOn, Grows, HasTold, IsCutShort, Says, both_done, last_line};
 
 use crate::address::is_path;
+use crate::next_line::{NextLine, read_line};
 use crate::operators::Operator;
+use rvm_refusal::Refusal;
 use std::alloc::Global;
 use std::io;
 use std::io::{BufRead, BufReader, Read, Write};
@@ -36,9 +39,10 @@ pub const LOST: u8 = 3;
 const PROGRESS: &[u8] = b"progress ";
 
 /// Tells a host lines over a connection, each after the answer to the one before, and writes the answers to `output`.
-/// The lines that report how far a move has come go to `progress`. Returns the status: 0 if all that was asked
-/// happened, 1 if something did not, and 3 if that is not known, since an answer was lost or could not be written, or a
-/// line could not be read or sent.
+/// The lines that report how far a move has come go to `progress`. A line that is too long for a host ends it: of that
+/// line and those after it nothing is sent, and `output` gets what the host would answer. Returns the status: 0 if all
+/// that was asked happened, 1 if something did not, and 3 if that is not known, since an answer was lost or could not be
+/// written, or a line could not be read or sent.
 pub fn tell_command<S: Read + Write + OpenStream + Drop, I: BufRead, O: Write, P: Write>(
     alloc: Global,
     stream: S,
@@ -47,7 +51,8 @@ pub fn tell_command<S: Read + Write + OpenStream + Drop, I: BufRead, O: Write, P
     progress: &mut P,
 ) -> u8
     ensures done { result ≡ 0 → AreAnswered (I.remaining lines.old) (S.remaining stream) Told.Done }
-    ensures not_done { result ≡ 1 → AreAnswered (I.remaining lines.old) (S.remaining stream) Told.NotDone }
+    ensures not_done { result ≡ 1 → AreAnswered (I.remaining lines.old) (S.remaining stream) Told.NotDone
+        ⊎ IsCutShort (I.remaining lines.old) (S.remaining stream) (O.contents output.old) (O.contents output.new) }
     ensures others { (result ≡ 0) ⊎ ((result ≡ 1) ⊎ (result ≡ 3)) }
 {
     status_of(tell_lines(alloc, stream, lines, output, progress))
@@ -67,7 +72,7 @@ fn status_of(told: io::Result<Told>) -> u8
     }
 }
 
-/// Tells a host lines, and writes its answers. Returns whether all that was asked happened.
+/// Tells a host lines, and writes its answers. Returns whether all that was asked happened, and all lines were told.
 #[tactic(auto, using(crate::proofs::Answered::all_answered))]
 fn tell_lines<S: Read + Write + OpenStream + Drop, I: BufRead, O: Write, P: Write>(
     alloc: Global,
@@ -76,16 +81,24 @@ fn tell_lines<S: Read + Write + OpenStream + Drop, I: BufRead, O: Write, P: Writ
     output: &mut O,
     progress: &mut P,
 ) -> io::Result<Told>
-    ensures { IfOk result (AreAnswered (I.remaining lines.old) (S.remaining stream)) }
+    ensures { IfOk result (HasTold (I.remaining lines.old) (S.remaining stream)
+        (O.contents output.old) (O.contents output.new)) }
 {
     let mut sending = stream.try_clone()?;
     let mut answers = BufReader::new(alloc, stream)?;
     let mut line = Vec::new(alloc);
     let mut told = Told::Done;
     for _line in 0..u64::MAX {
-        if !read_line(lines, &mut line)? {
-            sending.shutdown(Shutdown::Write)?;
-            return Ok(told);
+        match read_line(lines, &mut line)? {
+            NextLine::Line => {}
+            NextLine::End => {
+                sending.shutdown(Shutdown::Write)?;
+                return Ok(told);
+            }
+            NextLine::TooLong => {
+                refuse_line(output)?;
+                return Ok(Told::NotDone);
+            }
         }
         sending.write_all(&line)?;
         sending.flush()?;
@@ -105,21 +118,13 @@ fn both(one: Told, other: Told) -> Told
     }
 }
 
-/// Reads a line, and adds a line feed if it has none. Returns whether there was a line.
-#[tactic(auto, using(crate::proofs::Answered::line_read))]
-fn read_line<I: BufRead>(lines: &mut I, line: &mut Vec<u8>) -> io::Result<bool>
-    ensures end { result ≡ Ok false → IsAtEnd (I.remaining lines.old) }
-    ensures one { result ≡ Ok true → IfSome (I.remaining lines.old)
-        (λ bytes. (bytes ≢ []) × (I.remaining lines.new ≡ Some (drop_through 10 bytes))) }
+/// Writes that a line is too long, as a host does.
+fn refuse_line<O: Write>(output: &mut O) -> io::Result<()>
+    ensures { OnOk result (Appends (O.contents output.old) (O.contents output.new)
+        (text_of refusal.TooLong ++ codes "\n")) }
 {
-    line.clear();
-    if lines.read_until(b'\n', line)? == 0 {
-        return Ok(false);
-    }
-    if !line.ends_with(b"\n".as_slice()) {
-        line.push(b'\n')?;
-    }
-    Ok(true)
+    writeln!(output, "{}", Refusal::TooLong)?;
+    output.flush()
 }
 
 /// Reads an answer, and writes all of it but its last line. Returns what that line says: whether what was asked
@@ -131,8 +136,9 @@ fn read_answer<I: BufRead, O: Write, P: Write>(
     output: &mut O,
     progress: &mut P,
 ) -> io::Result<Told>
-    ensures { IfOk result (λ told. IfSome (I.remaining answers.old)
+    ensures says { IfOk result (λ told. IfSome (I.remaining answers.old)
         (λ bytes. (after : List ℕ) × (I.remaining answers.new ≡ Some after) × Says told bytes after)) }
+    ensures shown { OnOk result (Grows (O.contents output.old) (O.contents output.new)) }
 {
     for _line in 0..u64::MAX {
         line.clear();
@@ -166,7 +172,10 @@ fn end_of(line: &[u8]) -> Option<Told>
 
 /// Writes a line of an answer. One that reports how far a move has come goes to `progress`, and is lost if it cannot be
 /// written.
-fn show_line<O: Write, P: Write>(line: &[u8], output: &mut O, progress: &mut P) -> io::Result<()> {
+#[tactic(auto, using(crate::proofs::Answered::grows_not))]
+fn show_line<O: Write, P: Write>(line: &[u8], output: &mut O, progress: &mut P) -> io::Result<()>
+    ensures { OnOk result (Grows (O.contents output.old) (O.contents output.new)) }
+{
     match line.strip_prefix(PROGRESS) {
         Some(text) => {
             let _untold = progress.write_all(text);

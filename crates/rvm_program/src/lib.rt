@@ -44,6 +44,7 @@ pub use files::{MAX_FILE_SIZE, MAX_JOURNAL_SIZE, NamedFiles};
 use found::write_found;
 use rvm_arguments::{Arguments, CommandLine, HostArguments};
 use rvm_command::refused::{Refused, tell};
+pub use rvm_command_line::VERSION;
 use rvm_command_line::parse_args;
 use rvm_mem::PagedMemory;
 use rvm_refusal::Refusal;

@@ -34,6 +34,7 @@ guest_fault (fault.SameHost letter) most h bytes image bad = absurd bad
 guest_fault fault.SecondGuest most h bytes image bad = absurd bad
 guest_fault fault.OtherHosts most h bytes image bad = absurd bad
 guest_fault fault.OtherWorld most h bytes image bad = absurd bad
+guest_fault fault.NoImage most h bytes image bad = bad
 guest_fault fault.OtherImage most h bytes image bad = bad
 guest_fault (fault.Image why) most h bytes image bad = bad
 guest_fault (fault.Journal why) most h bytes image bad = absurd bad

@@ -1,5 +1,5 @@
 -- What is wrong with a journal in a file, and what is reported of it.
-use Rattle.std.specs.Prelude.{◌≡◌, ◌≢◌, ℕ, List, ◌++◌, Option, Some, None, IsSomeAnd, codes}
+use Rattle.std.specs.Prelude.{◌≡◌, ◌≢◌, ℕ, List, [], ◌++◌, Option, Some, None, IsSomeAnd, codes}
 use Rattle.std.specs.Char.{encode_utf8}
 use Rattle.sha2.specs.Sha256.{sha256}
 use Rattle.rvm_command.specs.declared.refused.Refused.{Refused}
@@ -11,11 +11,19 @@ use Rattle.rvm_journal.specs.declared.header.Image.{Image}
 use Rattle.rvm_journal.specs.Replaying as journal
 use Rattle.rvm_journal.specs.Replaying.{IsJournalFault}
 use Rattle.rvm_replay.specs.declared.journal_file.FileFault.{FileFault}
-use Rattle.rvm_replay.specs.declared.journal_file.FileFault.TheVariants.{NoHeader, SameHost, SecondGuest, OtherHosts, OtherWorld, OtherImage, Image as BadImage, Journal as BadJournal}
+use Rattle.rvm_replay.specs.declared.journal_file.FileFault.TheVariants.{NoHeader, SameHost, SecondGuest, OtherHosts, OtherWorld, NoImage, OtherImage, Image as BadImage, Journal as BadJournal}
 
 -- a header names a guest, and this is not the file of its image
 abbrev pub IsOtherImage : (guest : Option Image) → (file : List ℕ) → Type 0
 IsOtherImage guest file = IsSomeAnd guest (λ i. sha256 file ≢ i.digest)
+
+-- a header names a guest, and the file of its image holds nothing: no file was named
+abbrev pub IsNoImage : (guest : Option Image) → (file : List ℕ) → Type 0
+IsNoImage guest file = IsOtherImage guest file × (file ≡ [])
+
+-- a header names a guest, and the file holds something that is not its image
+abbrev pub IsWrongImage : (guest : Option Image) → (file : List ℕ) → Type 0
+IsWrongImage guest file = IsOtherImage guest file × (file ≢ [])
 
 -- a header names a guest, this is the file of its image, and the guest cannot be loaded from it
 abbrev pub IsBadImage : (why : Refused) → (guest : Option Image) → (file : List ℕ) → Type 0
@@ -29,7 +37,8 @@ IsGuestFault (SameHost letter) guest file = ⊥
 IsGuestFault SecondGuest guest file = ⊥
 IsGuestFault OtherHosts guest file = ⊥
 IsGuestFault OtherWorld guest file = ⊥
-IsGuestFault OtherImage guest file = IsOtherImage guest file
+IsGuestFault NoImage guest file = IsNoImage guest file
+IsGuestFault OtherImage guest file = IsWrongImage guest file
 IsGuestFault (BadImage why) guest file = IsBadImage why guest file
 IsGuestFault (BadJournal why) guest file = ⊥
 
@@ -41,7 +50,8 @@ IsFileFault (SameHost letter) most header bytes image = ⊥
 IsFileFault SecondGuest most header bytes image = ⊥
 IsFileFault OtherHosts most header bytes image = ⊥
 IsFileFault OtherWorld most header bytes image = ⊥
-IsFileFault OtherImage most header bytes image = IsSomeAnd header (λ h. IsOtherImage h.guest image)
+IsFileFault NoImage most header bytes image = IsSomeAnd header (λ h. IsNoImage h.guest image)
+IsFileFault OtherImage most header bytes image = IsSomeAnd header (λ h. IsWrongImage h.guest image)
 IsFileFault (BadImage why) most header bytes image = IsSomeAnd header (λ h. IsBadImage why h.guest image)
 IsFileFault (BadJournal why) most header bytes image =
     IsSomeAnd header (λ h. IsJournalFault why most h.hosts h.host (lines bytes) 4294967295)
@@ -53,6 +63,7 @@ fault_text (SameHost letter) = codes "a second journal of host " ++ encode_utf8 
 fault_text SecondGuest = codes "a second guest"
 fault_text OtherHosts = codes "of another number of hosts"
 fault_text OtherWorld = codes "of another world"
+fault_text NoImage = codes "the journal begins with a guest, so --image has to name its image"
 fault_text OtherImage = codes "the image is another one"
 fault_text (BadImage why) = refused_text why
 fault_text (BadJournal why) = journal.fault_text why

@@ -26,6 +26,8 @@ pub enum FileFault {
     OtherHosts,
     /// The header tells another number of the world than that of the journal whose host began with the guest.
     OtherWorld,
+    /// The journal begins with a guest, and the file of its image holds nothing, as where no file is named.
+    NoImage,
     /// The journal begins with the guest of another image.
     OtherImage,
     /// The guest with which the journal begins cannot be loaded from the image.
@@ -47,6 +49,12 @@ impl fmt::Display for FileFault {
             FileFault::SecondGuest => write!(f, "a second guest"),
             FileFault::OtherHosts => write!(f, "of another number of hosts"),
             FileFault::OtherWorld => write!(f, "of another world"),
+            FileFault::NoImage => {
+                write!(
+                    f,
+                    "the journal begins with a guest, so --image has to name its image"
+                )
+            }
             FileFault::OtherImage => write!(f, "the image is another one"),
             FileFault::Image(refused) => write!(f, "{refused}"),
             FileFault::Journal(fault) => write!(f, "{fault}"),

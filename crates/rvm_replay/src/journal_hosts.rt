@@ -1,13 +1,14 @@
 //! The host that does again what its journal tells.
 
-ghost use Rattle.std.specs.Prelude.{◌≡◌, ◌≢◌, ◌≤◌, [], false, IfErr, IfOk, IfSome, OnOk, Some, true};
+ghost use Rattle.std.specs.Prelude.{◌≡◌, ◌≢◌, ◌≤◌, [], false, IfErr, IfOk, IfSome, OnOk, Option, Some, true};
 ghost use Rattle.sha2.specs.Sha256.{sha256};
 ghost use Rattle.rvm_debug.specs.Words.{lines};
 ghost use Rattle.rvm_host.specs.Hosts.{is_sized, new_host};
+ghost use Rattle.rvm_journal.specs.declared.header.Image.{Image};
 ghost use Rattle.rvm_journal.specs.Headers.{IsRanged, IsSized, header_at};
 ghost use Rattle.rvm_journal.specs.Replaying.{IsJournalFault, IsReplayedTo};
 ghost use Rattle.rvm_replay.specs.declared.journal_file.FileFault.TheVariants.{NoHeader};
-ghost use Rattle.rvm_replay.specs.FileFaults.{IsFileFault, IsGuestFault};
+ghost use Rattle.rvm_replay.specs.FileFaults.{IsFileFault, IsGuestFault, IsOtherImage};
 ghost use Rattle.rvm_replay.specs.Journals.{IsGuestNamed, IsHostAfter};
 ghost use Rattle.rvm_replay.specs.Replays.{IsReplay};
 
@@ -100,8 +101,8 @@ pub(crate) fn open_host<M: PagedMemory + Drop>(
     }
 }
 
-/// The guest with which a journal begins, if it begins with one. Fails with `OtherImage` if it is the guest of another
-/// image.
+/// The guest with which a journal begins, if it begins with one. Fails with `NoImage` if the file of its image holds
+/// nothing, and with `OtherImage` if it is the guest of another image.
 fn guest_of<M: PagedMemory + Drop>(
     alloc: Global,
     guest: &Option<Image>,
@@ -114,7 +115,7 @@ fn guest_of<M: PagedMemory + Drop>(
         return Ok(None);
     };
     if !is_image_of(file, image) {
-        return Err(FileFault::OtherImage);
+        return Err(image_fault(file));
     }
     let arguments = GuestArguments {
         image: "",
@@ -128,6 +129,17 @@ fn guest_of<M: PagedMemory + Drop>(
             Ok(Some(guest))
         }
         Err(refused) => Err(FileFault::Image(refused)),
+    }
+}
+
+/// What is wrong with a file that is not that of an image: it holds nothing, or something else.
+fn image_fault(file: &[u8]) -> FileFault
+    ensures { (guest : Option Image) → IsOtherImage guest file.now → IsGuestFault result guest file.now }
+{
+    if file.is_empty() {
+        FileFault::NoImage
+    } else {
+        FileFault::OtherImage
     }
 }
 

@@ -16,9 +16,9 @@ use std::alloc::Global;
 use std::io::Write;
 
 /// Makes the host of a journal anew, has it do again what the journal tells, and writes to `output` what the guest sent
-/// while it was there. `name` is the journal's file; `image` is the file of the image with which the host began, and is
-/// not used if it began without a guest. With `until`, only this many events are done, from the first on, and lines
-/// after the one that tells the last of them are ignored.
+/// while it was there. `name` is the journal's file; `image` is the file of the image with which the host began, empty
+/// if none is named, and is not used if it began without a guest. With `until`, only this many events are done, from the
+/// first on, and lines after the one that tells the last of them are ignored.
 ///
 /// Returns the status: 0 if all of it was done, and then `errors` gets `replayed N events`; 1 if the journal is refused,
 /// for its header, its image or a line that is looked at, or if a write to `output` fails, and then `errors` says why.

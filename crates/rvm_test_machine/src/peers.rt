@@ -39,6 +39,8 @@ fn a_bad_line_is_told(rt: HostRuntime) -> Result<(), Fail> {
     let alloc = rt.alloc();
     let gap = read_peers(alloc, "A a:1\n#\nC b:2\n".as_bytes());
     assert_eq!(rt; gap.map(|_| ()), Err(PeersFault::BadLine(3)));
+    let again = read_peers(alloc, "A a:1\n#\nB b:1\nC a:1\n".as_bytes());
+    assert_eq!(rt; again.map(|_| ()), Err(PeersFault::SameAddress(4)));
     let one = read_peers(alloc, "A a:1".as_bytes());
     assert_eq!(rt; one.map(|_| ()), Err(PeersFault::TooFew));
     Ok(())

@@ -4,7 +4,7 @@ use crate::breaker::Breaker;
 use crate::farm::{Farm, Start, new_seat, work_both};
 use crate::guest::{counting_image, numbers};
 use crate::operator::{Answer, await_status, tell};
-use std::net::Net;
+use std::net::{Net, SocketAddr};
 use std::random::RandomSource;
 use std::sync::atomic::{AtomicBool, AtomicU32, Ordering};
 use std::sync::{Mutex, Wait};
@@ -157,9 +157,24 @@ fn ask_in_vain<R: AllocGlobal + Print + Net + Wait + Clock>(
     for line in ["move A", "regs 0"] {
         print_answer(rt, line, &tell(rt, farm.b.control, line)?)?;
     }
+    tell_long_lines(rt, farm.a.control)?;
     let is_as_one_board = await_numbers(rt, &farm.screen)?;
     end_both(rt, farm)?;
     println!(rt; "the guest ran on {is_as_one_board}")?;
+    Ok(())
+}
+
+/// Tells a host a comment of as many bytes as a line may have, and one of a byte more, between a line that is answered and
+/// one that is never sent. Prints the answers.
+fn tell_long_lines<R: AllocGlobal + Print + Net>(rt: &R, host: SocketAddr) -> anyhow::Result<()> {
+    let mut lines = String::new(rt.alloc());
+    lines.push_str("moved\n#")?;
+    for _byte in 1..4096 {
+        lines.push_str(".")?;
+    }
+    print_answer(rt, "4096 bytes", &tell(rt, host, lines.as_str())?)?;
+    lines.push_str(".\nstop now\n")?;
+    print_answer(rt, "4097 bytes", &tell(rt, host, lines.as_str())?)?;
     Ok(())
 }
 

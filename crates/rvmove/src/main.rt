@@ -4,12 +4,18 @@
 //! Stands on `rvm_program`, and on `rvm_paged` for the memory of guests.
 #![tactic(auto)]
 
+mod build;
+mod version;
+
+use build::BUILD;
 use rvm_paged::PagedRam;
 use rvm_program::{perform, take_descriptors, take_words, tell_words_fault, texts};
 use std::process::ExitCode;
+use version::{asks_for_version, write_version};
 
 /// Takes the standard descriptors and the words of the command line, does the command, and exits with its status: 1 if
-/// the descriptors are refused or memory runs out, 2 if a word is not UTF-8.
+/// the descriptors are refused or memory runs out, 2 if a word is not UTF-8. A program that was told its commit tells it
+/// with its version.
 fn main(rt: HostRuntime) -> anyhow::Result<ExitCode> {
     let descriptors = match take_descriptors(&rt) {
         Ok(descriptors) => descriptors,
@@ -32,13 +38,19 @@ fn main(rt: HostRuntime) -> anyhow::Result<ExitCode> {
             return Ok(ExitCode::from(status));
         }
     };
-    let status = perform::<PagedRam, _, _, _, _, _>(
-        &rt,
-        texts.as_slice(),
-        &mut rt.stdin(),
-        &mut rt.stdout(),
-        &mut rt.stderr(),
-    );
+    let status = match BUILD {
+        Some(build) if asks_for_version(texts.as_slice()) => {
+            let _untold = write_version(build, &mut rt.stdout());
+            0
+        }
+        _ => perform::<PagedRam, _, _, _, _, _>(
+            &rt,
+            texts.as_slice(),
+            &mut rt.stdin(),
+            &mut rt.stdout(),
+            &mut rt.stderr(),
+        ),
+    };
     drop(descriptors);
     Ok(ExitCode::from(status))
 }
