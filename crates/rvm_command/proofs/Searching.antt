@@ -268,7 +268,10 @@ ends_spent t count start now latest so_far =
 
 -- ---- the loop
 
--- the hart of a turn
+-- the hart of a turn, by the code's numbers
+pub hart_is : (t made k harts n h : ℕ) → h ≡ (t + k) % harts → k ≡ made → harts ≡ n → h ≡ (t + made) % n
+hart_is t made k harts n h is same count = is ∙ ap (λ x. (t + x) % harts) same ∙ ap (λ x. (t + made) % x) count
+
 turn_hart : {t made h : ℕ} {start now next : GuestState} {latest noted : List (Option Fault)} {stop : Option Stop} {fault : Option Fault} → h ≡ (t + made) % length start.guest.board.harts → Searched t start now made latest → TurnTaken h now next latest noted stop fault
     → TurnTaken (hart_of_turn (t + made) now.guest) now next latest noted stop fault
 turn_hart {t} {made} {h} {start} {now} {next} {latest} {noted} {stop} {fault} hart so_far taken =

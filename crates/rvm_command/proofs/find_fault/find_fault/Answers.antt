@@ -1,5 +1,5 @@
-use Rattle.std.proofs.Common.{◌≡◌, ◌+◌, ◌%◌, ◌<◌, ◌≤◌, length, ap, sym, ◌∙◌, arith, subst}
-use Rattle.rvm_command.proofs.Searching.{IsSought, Searched, TurnTaken, ends_spent, ends_with, goes_on_with, none_searched}
+use Rattle.std.proofs.Common.{◌≡◌, ◌+◌, ◌%◌, ◌<◌, ◌≤◌, length, sym, ◌∙◌, arith, subst}
+use Rattle.rvm_command.proofs.Searching.{IsSought, Searched, TurnTaken, ends_spent, ends_with, goes_on_with, hart_is, none_searched}
 use Rattle.rvm_command.proofs.find_fault.find_fault.Goals as goal
 
 pub loop-made-init : goal.loop-made-init
@@ -27,7 +27,7 @@ returns-then-ends-clause-turns g c =
       notes = c.take_turn-taken.ensures.noted;
     } in
     let hart : c.hart_of_turn-hart.result ≡ (c.args.turn + c.loop-made.made) % length c.args.board.now.guest.board.harts =
-    c.hart_of_turn-hart.ensures.hart ∙ ap (λ k. (c.args.turn + k) % c.harts-harts.result) c.from.ensures ∙ ap (λ k. (c.args.turn + c.loop-made.made) % k) c.harts-harts.ensures.count in
+    hart_is c.args.turn c.loop-made.made c.from.result c.harts-harts.result (length c.args.board.now.guest.board.harts) c.hart_of_turn-hart.result c.hart_of_turn-hart.ensures.hart c.from.ensures c.harts-harts.ensures.count in
     let most : length c.args.board.now.guest.board.harts ≤ 8 = omega (arith, c.harts-harts.ensures.count, c.harts-harts.ensures.bound) in
     let some : 0 < length c.args.board.now.guest.board.harts = omega (arith, c.harts-harts.ensures.count, c.harts-harts.ensures.some) in
     let sought : IsSought c.args.turn c.args.count c.args.board.now c.take_turn-taken.new.board (record { made = c.loop-made.made + 1; stop = c.take_turn-taken.result.stop }) c.take_turn-taken.result.fault =
@@ -44,7 +44,7 @@ returns-then-ends-clause-fault g c =
       notes = c.take_turn-taken.ensures.noted;
     } in
     let hart : c.hart_of_turn-hart.result ≡ (c.args.turn + c.loop-made.made) % length c.args.board.now.guest.board.harts =
-    c.hart_of_turn-hart.ensures.hart ∙ ap (λ k. (c.args.turn + k) % c.harts-harts.result) c.from.ensures ∙ ap (λ k. (c.args.turn + c.loop-made.made) % k) c.harts-harts.ensures.count in
+    hart_is c.args.turn c.loop-made.made c.from.result c.harts-harts.result (length c.args.board.now.guest.board.harts) c.hart_of_turn-hart.result c.hart_of_turn-hart.ensures.hart c.from.ensures c.harts-harts.ensures.count in
     let most : length c.args.board.now.guest.board.harts ≤ 8 = omega (arith, c.harts-harts.ensures.count, c.harts-harts.ensures.bound) in
     let some : 0 < length c.args.board.now.guest.board.harts = omega (arith, c.harts-harts.ensures.count, c.harts-harts.ensures.some) in
     let sought : IsSought c.args.turn c.args.count c.args.board.now c.take_turn-taken.new.board (record { made = c.loop-made.made + 1; stop = c.take_turn-taken.result.stop }) c.take_turn-taken.result.fault =
@@ -61,7 +61,7 @@ loop-made-preserved g c =
       notes = c.take_turn-taken.ensures.noted;
     } in
     let hart : c.hart_of_turn-hart.result ≡ (c.args.turn + c.loop-made.made) % length c.args.board.now.guest.board.harts =
-    c.hart_of_turn-hart.ensures.hart ∙ ap (λ k. (c.args.turn + k) % c.harts-harts.result) c.from.ensures ∙ ap (λ k. (c.args.turn + c.loop-made.made) % k) c.harts-harts.ensures.count in
+    hart_is c.args.turn c.loop-made.made c.from.result c.harts-harts.result (length c.args.board.now.guest.board.harts) c.hart_of_turn-hart.result c.hart_of_turn-hart.ensures.hart c.from.ensures c.harts-harts.ensures.count in
     let most : length c.args.board.now.guest.board.harts ≤ 8 = omega (arith, c.harts-harts.ensures.count, c.harts-harts.ensures.bound) in
     let some : 0 < length c.args.board.now.guest.board.harts = omega (arith, c.harts-harts.ensures.count, c.harts-harts.ensures.some) in
     record {
