@@ -10,10 +10,12 @@ use Rattle.rvm_word.specs.Word.{signed_value}
 use Rattle.rvm_hart.specs.Rows.{effect}
 use Rattle.rvm_board.specs.Board.{at_reset, new_hart}
 use Rattle.rvm_board.specs.Guest.{Guest, fresh}
+use Rattle.rvm_board.specs.Turns.{after_turns}
 use Rattle.rvm_dis.specs.Disassembly.{text_of}
 use Rattle.rvm_dis.specs.Pieces.{hex_digits}
 use Rattle.rvm_command.specs.declared.fault.Fault.{Fault}
 use Rattle.rvm_command.specs.declared.run.Ended.TheVariants as ended
+use Rattle.rvm_command.specs.ExtendedScript.{fault_in_turns, find_done, turns_done}
 use Rattle.rvm_command.specs.Faults.{first_fault, latest_fault}
 use Rattle.rvm_command.specs.FaultTexts.{fault_text}
 use Rattle.rvm_command.specs.Run.{after, ran, run_from}
@@ -68,6 +70,29 @@ a_run_goes_on = refl
 it_makes_two_turns : turns_of true 5 [] (guest 1 (replicate 4 0)) ≡ 2
 unfolding run_from after steps_in first_fault latest_fault isa.decoded isa.row_of isa.table signed_value
 it_makes_two_turns = refl
+
+-- searches of an extended session
+a_search_tells_the_first_trap : (find_done 5 0 (guest 1 (replicate 4 0))).replied.text
+    ≡ codes "fault: hart 0 cause 2 (illegal instruction) at 80000000 value 00000000: .word 0x00000000\n"
+unfolding after_turns steps_in first_fault latest_fault isa.decoded isa.row_of isa.table signed_value digits hex_digits text_of
+a_search_tells_the_first_trap = refl
+
+it_counts_two_turns : (find_done 5 0 (guest 1 (replicate 4 0))).turns ≡ 2
+unfolding after_turns steps_in first_fault latest_fault isa.decoded isa.row_of isa.table signed_value
+it_counts_two_turns = refl
+
+a_search_of_one_turn_is_that_turn : (find_done 1 0 (guest 1 (replicate 4 0))).replied ≡ (turns_done 1 0 (guest 1 (replicate 4 0))).replied
+unfolding after_turns steps_in first_fault latest_fault isa.decoded isa.row_of isa.table signed_value
+a_search_of_one_turn_is_that_turn = refl
+
+a_trap_before_a_search_counts_for_nothing : fault_in_turns 1 1 (find_done 1 0 (guest 1 (replicate 4 0))).replied.guest ≡ None
+unfolding after_turns steps_in first_fault latest_fault isa.decoded isa.row_of isa.table signed_value
+a_trap_before_a_search_counts_for_nothing = refl
+
+-- the turns begin with that of hart 1
+a_search_goes_on_in_the_order_of_turns : fault_in_turns 5 1 (guest 2 (replicate 4 0)) ≡ Some (record { steps = 3; fault = record illegal { hart = 1 } })
+unfolding after_turns steps_in first_fault latest_fault isa.decoded isa.row_of isa.table signed_value
+a_search_goes_on_in_the_order_of_turns = refl
 
 -- the steps of a trace
 a_trace_has_its_first_and_its_last_turn : (t0 t1 t2 t3 : Taken) → trace_of (Some (1, 2)) (t0 ∷ t1 ∷ t2 ∷ t3 ∷ []) ≡ line_at 1 t1 ∷ line_at 2 t2 ∷ []

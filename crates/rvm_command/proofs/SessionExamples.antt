@@ -20,6 +20,8 @@ use Rattle.rvm_command.specs.declared.extended_line.ExtendedLine.TheVariants as 
 use Rattle.rvm_command.specs.ExtendedAnswers.{csrs_answer, csrs_text, devices_text, hart_lines, turns_text}
 use Rattle.rvm_command.specs.ExtendedLines.{extended_command_of, extended_line_of}
 use Rattle.rvm_command.specs.ExtendedRuns.{session_told}
+use Rattle.rvm_command.specs.Faults.{first_fault, latest_fault}
+use Rattle.rvm_command.specs.Taken.{steps_in}
 use Rattle.rvm_command.specs.ExtendedScript.{session_of, turns_from}
 
 -- LINES
@@ -51,6 +53,22 @@ no_turns_are_no_line = refl
 more_than_a_million_turns_are_no_line : extended_line_of (codes "turns 1000001") ≡ None
 unfolding extended_line_of extended_command_of line_of words_from command_of
 more_than_a_million_turns_are_no_line = refl
+
+a_search_of_a_million_turns : extended_line_of (codes "find-fault 1000000") ≡ Some (line.FindFault 1000000)
+unfolding extended_line_of extended_command_of line_of words_from command_of
+a_search_of_a_million_turns = refl
+
+a_search_of_more_is_no_line : extended_line_of (codes "find-fault 1000001") ≡ None
+unfolding extended_line_of extended_command_of line_of words_from command_of
+a_search_of_more_is_no_line = refl
+
+a_search_has_a_number_of_turns : extended_line_of (codes "find-fault") ≡ None
+unfolding extended_line_of extended_command_of line_of words_from command_of
+a_search_has_a_number_of_turns = refl
+
+a_search_is_one_word : extended_line_of (codes "find fault 5") ≡ None
+unfolding extended_line_of extended_command_of line_of words_from command_of
+a_search_is_one_word = refl
 
 a_line_of_a_script_stays_one : extended_line_of (codes "step 1") ≡ Some (line.Plain (plain.Steps 1 1))
 unfolding extended_line_of line_of words_from command_of
@@ -138,6 +156,16 @@ steps_are_no_turns h r = refl
 a_halted_board_ends_turns : (h : HartState) (r : Shared) → (session_told (codes "turns 5" ∷ []) (two_harts h r (Some 3))).text ≡ codes "turns 1: halted 3\n"
 unfolding session_of extended_line_of extended_command_of line_of words_from command_of after_turns digits
 a_halted_board_ends_turns h r = refl
+
+-- turns that end with the one that stops or halts, and show no fault, are told as turns
+a_search_may_stop : (h : HartState) (r : Shared) → (session_told (codes "find-fault 5" ∷ codes "turns 5" ∷ []) (two_harts h r None)).text
+    ≡ codes "turns 1: hart 0 break 80000010\nturns 1: hart 1 break 80000010\n"
+unfolding session_of extended_line_of extended_command_of line_of words_from command_of after_turns steps_in first_fault latest_fault digits hex_digits
+a_search_may_stop h r = refl
+
+a_halted_board_ends_a_search : (h : HartState) (r : Shared) → (session_told (codes "find-fault 5" ∷ []) (two_harts h r (Some 3))).text ≡ codes "turns 1: halted 3\n"
+unfolding session_of extended_line_of extended_command_of line_of words_from command_of after_turns steps_in first_fault latest_fault digits
+a_halted_board_ends_a_search h r = refl
 
 -- a line that is not in the grammar ends the session, with its number
 a_line_that_is_none_ends_it : (h : HartState) (r : Shared) → (session_told (codes "turns 5" ∷ codes "turn 5" ∷ codes "turns 5" ∷ []) (two_harts h r (Some 3))).end ≡ Some 2

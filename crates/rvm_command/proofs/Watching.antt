@@ -33,11 +33,11 @@ use Rattle.rvm_command.proofs.Runs.{Finished, Progress, after_more, after_none, 
 
 -- ---- steps among events
 
-steps_none : (g : Guest) → steps_in [] g ≡ []
+pub steps_none : (g : Guest) → steps_in [] g ≡ []
 unfolding steps_in
 steps_none g = refl
 
-steps_more : (e : BoardEvent) (es : List BoardEvent) (g : Guest) → steps_in (e ∷ es) g ≡ step_in e g (answered e g) ++ steps_in es (answered e g).guest
+pub steps_more : (e : BoardEvent) (es : List BoardEvent) (g : Guest) → steps_in (e ∷ es) g ≡ step_in e g (answered e g) ++ steps_in es (answered e g).guest
 unfolding steps_in
 steps_more e es g = refl
 

@@ -6,7 +6,7 @@ use Rattle.rvm_debug.specs.declared.line.Line.{Line}
 use Rattle.rvm_debug.specs.Lines.{line_of, one_number}
 use Rattle.rvm_debug.specs.Words.{words, without_return}
 use Rattle.rvm_command.specs.declared.extended_command.ExtendedCommand.{ExtendedCommand}
-use Rattle.rvm_command.specs.declared.extended_command.ExtendedCommand.TheVariants.{Csrs, Devices, Turns}
+use Rattle.rvm_command.specs.declared.extended_command.ExtendedCommand.TheVariants.{Csrs, Devices, FindFault, Turns}
 use Rattle.rvm_command.specs.declared.extended_line.ExtendedLine.{ExtendedLine}
 use Rattle.rvm_command.specs.declared.extended_line.ExtendedLine.TheVariants as line
 
@@ -16,26 +16,28 @@ extended_command_of word =
     if bytes_eq word (codes "csrs") then Some Csrs
     else (if bytes_eq word (codes "devices") then Some Devices
     else (if bytes_eq word (codes "turns") then Some Turns
-    else None))
+    else (if bytes_eq word (codes "find-fault") then Some FindFault
+    else None)))
 
 -- the words after `devices`: none
 abbrev pub devices_line : List (List ℕ) → Option ExtendedLine
 devices_line [] = Some line.Devices
 devices_line (w ∷ ws) = None
 
--- at most this many turns, 1 to 1000000
-abbrev pub turns_of : ℕ → Option ExtendedLine
-turns_of n = if nat_le 1 n && nat_le n 1000000 then Some (line.Turns n) else None
+-- a number of turns that a line may ask for, 1 to 1000000
+abbrev pub if_turns : ℕ → Option ℕ
+if_turns n = if nat_le 1 n && nat_le n 1000000 then Some n else None
 
--- the words after `turns`: N
-abbrev pub turns_line : List (List ℕ) → Option ExtendedLine
-turns_line ws = option_and_then turns_of (one_number ws)
+-- the words after `turns` and `find-fault`: N
+abbrev pub number_of_turns : List (List ℕ) → Option ℕ
+number_of_turns ws = option_and_then if_turns (one_number ws)
 
--- a command with the words after its name: `csrs H`, `devices` or `turns N`
+-- a command with the words after its name: `csrs H`, `devices`, `turns N` or `find-fault N`
 abbrev pub extended_commanded : ExtendedCommand → List (List ℕ) → Option ExtendedLine
 extended_commanded Csrs ws = option_map line.Csrs (one_number ws)
 extended_commanded Devices ws = devices_line ws
-extended_commanded Turns ws = turns_line ws
+extended_commanded Turns ws = option_map line.Turns (number_of_turns ws)
+extended_commanded FindFault ws = option_map line.FindFault (number_of_turns ws)
 
 -- what a line asks for, by the command that its first word names, if it names one
 abbrev pub extended_statement : Option ExtendedCommand → List (List ℕ) → Option ExtendedLine

@@ -1,5 +1,8 @@
 -- What an extended session does to a guest, and what it answers: a fold over its lines.
-use Rattle.std.specs.Prelude.{ℕ, ◌+◌, ◌-◌, ◌%◌, List, [], ◌∷◌, length, Option, Some, None}
+use Rattle.std.specs.Prelude.{ℕ, ◌+◌, ◌-◌, ◌%◌, List, [], ◌∷◌, ◌++◌, length, map, Option, Some, None, codes}
+use Rattle.std.specs.List.{range_with_len}
+use Rattle.rvm_board.specs.declared.event.BoardEvent.{BoardEvent}
+use Rattle.rvm_board.specs.declared.event.BoardEvent.TheVariants.{Step}
 use Rattle.rvm_board.specs.declared.turns.Order.TheVariants.{RoundRobin}
 use Rattle.rvm_board.specs.Guest.{Guest}
 use Rattle.rvm_board.specs.State.{state_of}
@@ -9,6 +12,11 @@ use Rattle.rvm_command.specs.declared.extended_line.ExtendedLine.{ExtendedLine}
 use Rattle.rvm_command.specs.declared.extended_line.ExtendedLine.TheVariants as line
 use Rattle.rvm_command.specs.ExtendedAnswers.{csrs_answer, devices_text, turns_text}
 use Rattle.rvm_command.specs.ExtendedLines.{extended_line_of}
+use Rattle.rvm_command.specs.declared.fault.Fault.{Fault}
+use Rattle.rvm_command.specs.Faults.{Shown, first_fault}
+use Rattle.rvm_command.specs.FaultTexts.{fault_text}
+use Rattle.rvm_command.specs.Taken.{Taken, steps_in}
+use Rattle.rvm_command.specs.Watched.{turns_until}
 
 -- what a line leaves and answers, and how many turns the lines `turns` have made so far
 pub record Extended : Type 0 where
@@ -40,12 +48,44 @@ turns_done n t g =
       turns = t + after.made;
     }
 
+-- n turns from turn t on, as events: a step of the hart whose turn it is
+abbrev pub events_of_turns : (n t : ℕ) → Guest → List BoardEvent
+events_of_turns n t g = map (λ k. Step (hart_of_turn k g)) (range_with_len t n)
+
+-- the steps of at most n turns, from turn t on, in order
+abbrev pub steps_of_turns : (n t : ℕ) → Guest → List Taken
+steps_of_turns n t g = steps_in (events_of_turns (turns_from n t g).made t g) g
+
+-- the first fault that at most n turns show, from turn t on; steps before them count for nothing
+abbrev pub fault_in_turns : (n t : ℕ) → Guest → Option Shown
+fault_in_turns n t g = first_fault [] (steps_of_turns n t g)
+
+-- the fault that was shown, if one was
+abbrev pub fault_shown : Option Shown → Option Fault
+fault_shown None = None
+fault_shown (Some found) = Some found.fault
+
+-- the answer to `find-fault N`: the fault, if one is shown, or else what `turns N` answers
+abbrev pub found_text : Option Fault → (turns : List ℕ) → List ℕ
+found_text None turns = turns
+found_text (Some f) turns = fault_text f ++ codes "\n"
+
+-- what at most n turns do, from turn t on, which end with the one that shows the first fault
+abbrev pub find_done : (n t : ℕ) → Guest → Extended
+find_done n t g =
+    let found = fault_in_turns n t g in
+    let done = turns_done (turns_until found n) t g in
+    record done {
+      replied = record done.replied { text = found_text (fault_shown found) done.replied.text };
+    }
+
 -- what a line does after t turns
 abbrev pub extended_done_by : ExtendedLine → (t : ℕ) → Guest → Extended
 extended_done_by (line.Plain l) t g = record { replied = done_by l g; turns = t }
 extended_done_by (line.Csrs h) t g = record { replied = tells g (csrs_answer h g); turns = t }
 extended_done_by line.Devices t g = record { replied = tells g (devices_text (state_of g)); turns = t }
 extended_done_by (line.Turns n) t g = turns_done n t g
+extended_done_by (line.FindFault n) t g = find_done n t g
 
 -- what a session leaves and answers, as a script does, and how many turns its lines `turns` have made
 pub record Session : Type 0 where

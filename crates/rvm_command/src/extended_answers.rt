@@ -8,8 +8,12 @@ ghost use Rattle.rvm_hart.specs.Bus.{mip_of};
 ghost use Rattle.rvm_board.specs.Board.{hart_at};
 ghost use Rattle.rvm_board.specs.Snapshot.{state_in};
 ghost use Rattle.rvm_board.specs.State.{state_of};
+ghost use Rattle.rvm_command.specs.ExtendedScript.{found_text};
+ghost use Rattle.rvm_command.specs.FaultTexts.{fault_text};
 ghost use Rattle.rvm_command.specs.ExtendedAnswers.{console_text, counters_text, csrs_answer, csrs_text, devices_text, halted_text, handling_text, hart_line, hart_lines, number_text, queue_text, setup_text, timer_text, turns_text};
 
+use crate::fault::{Fault, write_fault};
+use crate::find_fault::Search;
 use rvm_board::{BoardRefusal, BoardReply, Debugged, HartPart, Snapshot, Stop};
 use rvm_csr::{Csr, CsrFile, Interrupts};
 use rvm_debug::write_reply;
@@ -344,5 +348,31 @@ pub fn write_turns<W: Write>(
         (turns_text made hart stop)) }
 {
     writeln!(writer, "turns {made}: {}", Stopped { hart, stop })?;
+    Ok(())
+}
+
+/// Writes the fault that a search found, or else how many turns it made, the last of them by hart `hart`, and what ended
+/// them. `LinkFault` if the writer fails.
+pub(crate) fn write_search<W: Write>(
+    writer: &mut W,
+    search: Search,
+    hart: u32,
+) -> Result<(), LinkFault>
+    ensures { OnOk result (Appends (W.contents writer.old) (W.contents writer.new)
+        (found_text search.fault (turns_text search.turns.made hart search.turns.stop))) }
+{
+    match search.fault {
+        Some(fault) => write_fault_line(writer, &fault),
+        None => write_turns(writer, search.turns.made, hart, search.turns.stop),
+    }
+}
+
+/// Writes a line that tells a fault.
+fn write_fault_line<W: Write>(writer: &mut W, fault: &Fault) -> Result<(), LinkFault>
+    ensures { OnOk result (Appends (W.contents writer.old) (W.contents writer.new)
+        (fault_text fault.now ++ codes "\n")) }
+{
+    write_fault(fault, writer)?;
+    writeln!(writer)?;
     Ok(())
 }

@@ -9,6 +9,7 @@ pub enum ExtendedCommand {
     Csrs,
     Devices,
     Turns,
+    FindFault,
 }
 
 impl ExtendedCommand {
@@ -23,6 +24,8 @@ impl ExtendedCommand {
             Some(ExtendedCommand::Devices)
         } else if word == b"turns".as_slice() {
             Some(ExtendedCommand::Turns)
+        } else if word == b"find-fault".as_slice() {
+            Some(ExtendedCommand::FindFault)
         } else {
             None
         }

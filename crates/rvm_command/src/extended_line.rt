@@ -1,7 +1,7 @@
 //! What a line of an extended session asks for.
 
 ghost use Rattle.std.specs.Prelude.{◌≡◌};
-ghost use Rattle.rvm_command.specs.ExtendedLines.{devices_line, extended_commanded, extended_line_of, further, turns_line};
+ghost use Rattle.rvm_command.specs.ExtendedLines.{devices_line, extended_commanded, extended_line_of, further, number_of_turns};
 
 use crate::extended_command::ExtendedCommand;
 use rvm_debug::{Line, Words, one_number, without_return};
@@ -20,6 +20,8 @@ pub enum ExtendedLine<'a> {
     Devices,
     /// At most this many turns of the harts in their order, 1 to 1000000.
     Turns(u32),
+    /// At most this many turns, 1 to 1000000, up to the first fault that they show.
+    FindFault(u32),
 }
 
 impl<'a> ExtendedLine<'a> {
@@ -52,7 +54,8 @@ fn commanded<'a>(command: ExtendedCommand, words: Words<'a>) -> Option<ExtendedL
     match command {
         ExtendedCommand::Csrs => Some(ExtendedLine::Csrs(one_number(words)?)),
         ExtendedCommand::Devices => devices(words),
-        ExtendedCommand::Turns => turns(words),
+        ExtendedCommand::Turns => Some(ExtendedLine::Turns(number_of_turns(words)?)),
+        ExtendedCommand::FindFault => Some(ExtendedLine::FindFault(number_of_turns(words)?)),
     }
 }
 
@@ -67,13 +70,13 @@ fn devices<'a>(words: Words<'a>) -> Option<ExtendedLine<'a>>
     }
 }
 
-/// Reads the words after the name of `turns N`.
-fn turns<'a>(words: Words<'a>) -> Option<ExtendedLine<'a>>
-    ensures { result ≡ turns_line words.entry }
+/// Reads the words after the name of `turns N` or `find-fault N`.
+fn number_of_turns<'a>(words: Words<'a>) -> Option<u32>
+    ensures { result ≡ number_of_turns words.entry }
 {
     let count = one_number(words)?;
     if 1 <= count && count <= MAX_TURNS {
-        Some(ExtendedLine::Turns(count))
+        Some(count)
     } else {
         None
     }

@@ -4,10 +4,11 @@ ghost use Rattle.std.specs.Prelude.{◌≡◌, ◌+◌, ◌%◌, ◌^◌, ◌<�
 ghost use Rattle.std.specs.Io.KnownBytes.{Appends};
 ghost use Rattle.rvm_mem.specs.Pages.{mark_all};
 ghost use Rattle.rvm_command.specs.ExtendedRuns.{IsAnswered};
-ghost use Rattle.rvm_command.specs.ExtendedScript.{extended_done_by, turns_done};
+ghost use Rattle.rvm_command.specs.ExtendedScript.{extended_done_by, find_done, turns_done};
 
-use crate::extended_answers::{write_csrs, write_devices, write_turns};
+use crate::extended_answers::{write_csrs, write_devices, write_search, write_turns};
 use crate::extended_line::ExtendedLine;
+use crate::find_fault::find_fault;
 use rvm_board::{Debugged, Order};
 use rvm_debug::do_line;
 use rvm_mem::Memory;
@@ -46,6 +47,7 @@ pub fn do_extended_line<M: Memory, W: Write>(
             Ok(turns)
         }
         ExtendedLine::Turns(count) => make_turns(board, turns, count, writer),
+        ExtendedLine::FindFault(count) => search(board, turns, count, writer),
     }
 }
 
@@ -74,8 +76,34 @@ fn make_turns<M: Memory, W: Write>(
     Ok(after)
 }
 
+/// Makes at most `count` turns of the harts in their order, from turn `turns` on, up to the first fault that they show,
+/// and writes that fault, or else how they ended. Returns how many turns there are then. `LinkFault` if the writer fails;
+/// the turns are made even then.
+fn search<M: Memory, W: Write>(
+    board: &mut Debugged<M>,
+    turns: u64,
+    count: u32,
+    writer: &mut W,
+) -> Result<u64, LinkFault>
+    requires { turns ≤ 2 ^ 63 }
+    ensures text { OnOk result (Appends (W.contents writer.old) (W.contents writer.new)
+        (find_done count turns board.old.guest).replied.text) }
+    ensures turns { IfOk result (λ t. t ≡ (find_done count turns board.old.guest).turns) }
+    ensures within { IfOk result (λ t. t ≤ turns + 2 ^ 32) }
+    ensures guest { board.new.guest ≡ (find_done count turns board.old.guest).replied.guest }
+    ensures dirty { board.new.dirty
+        ≡ mark_all (find_done count turns board.old.guest).replied.pages board.old.dirty }
+{
+    let harts = board.harts();
+    let found = find_fault(board, turns, count);
+    let after = turns + u64::from(found.turns.made);
+    let last = hart_of_turn(after.saturating_sub(1), harts);
+    write_search(writer, found, last)?;
+    Ok(after)
+}
+
 /// The hart whose turn is turn `turn`, of so many.
-fn hart_of_turn(turn: u64, harts: u32) -> u32
+pub(crate) fn hart_of_turn(turn: u64, harts: u32) -> u32
     requires { 0 < harts }
     ensures hart { result ≡ turn % harts }
     ensures within { result < harts }

@@ -7,8 +7,8 @@
 //! worlds and their scripts, and on `rvm_arguments`. It must not know files, processes or the terminal.
 //!
 //! To be read in this order: `guest`, `refused`, `flush`, `output_buffer`, `fault`, `run`, `trace`, `latest_traps`,
-//! `coverage`, `symbols`, `profile`, `watched`, `report`, `run_command`, `asm_command`, `dis_command`; `extended_command`, `extended_line`, `extended_answers`,
-//! `extended_lines`, `extended_script`, `debug_command`; `script_refused`, `first_world`, `script_command`; `laws`.
+//! `coverage`, `symbols`, `profile`, `watched`, `report`, `run_command`, `asm_command`, `dis_command`; `extended_command`, `extended_line`, `find_fault`,
+//! `extended_answers`, `extended_lines`, `extended_script`, `debug_command`; `script_refused`, `first_world`, `script_command`; `laws`.
 #![tactic(auto)]
 
 pub mod asm_command;
@@ -21,6 +21,7 @@ mod extended_line;
 mod extended_lines;
 mod extended_script;
 pub mod fault;
+mod find_fault;
 mod first_world;
 pub mod flush;
 pub mod guest;

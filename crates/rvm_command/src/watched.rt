@@ -168,7 +168,7 @@ fn step<M: Memory>(guest: &mut Debugged<M>, hart: u32) -> Option<Stepped>
 }
 
 /// The answer to a step of a hart with this `pc`.
-fn reply_of(pc: u32, stepped: Option<Stepped>) -> BoardReply
+pub(crate) fn reply_of(pc: u32, stepped: Option<Stepped>) -> BoardReply
     ensures { result ≡ step_reply pc stepped }
 {
     match stepped {

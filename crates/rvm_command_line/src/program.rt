@@ -70,6 +70,7 @@ Lines of a script, with numbers in decimal or 0x hexadecimal:
   poke ADDR HEX     writes bytes into RAM
 With --extended also:
   turns N           N turns of all harts, one after the other, as in `rvmove run`
+  find-fault N      the same, up to the first trap that the guest has no handler for
   csrs H            writes the control and status registers of hart H
   devices           writes what the timer, the console and the halt word hold
 Blank lines and lines that begin with # are passed over.";
