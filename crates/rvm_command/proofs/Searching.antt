@@ -1,5 +1,5 @@
 -- A search turn by turn: the turns so far, the steps that they are, and the first fault that they show.
-use Rattle.std.proofs.Common.{◌≡◌, ℕ, zero, suc, ◌+◌, ◌-◌, ◌%◌, ◌<◌, ◌≤◌, List, [], ◌∷◌, ◌++◌, length, map, get_or, replicate, Option, Some, None, Bool, true, false, refl, sym, ap, subst, ◌∙◌, arith, append-nil}
+use Rattle.std.proofs.Common.{◌≡◌, ℕ, suc, ◌+◌, ◌-◌, ◌%◌, ◌<◌, ◌≤◌, List, [], ◌∷◌, ◌++◌, length, map, get_or, replicate, Option, Some, None, Bool, true, false, refl, sym, ap, subst, ◌∙◌, arith, append-nil}
 use Rattle.std.proofs.Math.Nat.{mod-add-mod}
 use Rattle.std.proofs.lemmas.Nat.{mod_below}
 use Rattle.std.specs.List.{range_with_len}
@@ -12,7 +12,7 @@ use Rattle.rvm_board.specs.declared.event.BoardReply.TheVariants as reply
 use Rattle.rvm_board.specs.declared.turns.Order.TheVariants.{RoundRobin}
 use Rattle.rvm_board.specs.declared.turns.Stop.{Stop}
 use Rattle.rvm_board.specs.declared.turns.Turns.{Turns}
-use Rattle.rvm_board.specs.Events.{Answered, answered, steps}
+use Rattle.rvm_board.specs.Events.{Answered, steps}
 use Rattle.rvm_board.specs.Guest.{Guest, GuestState}
 use Rattle.rvm_board.specs.Turns.{AfterTurns, TakesTurns, after_turns, behind, stop_in, unless_stopped}
 use Rattle.rvm_board.proofs.Turning.{behind_both, behind_none, ended, mark_more, one_more, steps_count}
@@ -278,24 +278,24 @@ turn_hart {t} {made} {h} {start} {now} {next} {latest} {noted} {stop} {fault} ha
     subst (λ k. TurnTaken k now next latest noted stop fault) (hart ∙ ap (λ k. (t + made) % k) (sym so_far.size)) taken
 
 -- a turn that is known not to end the search
-pub goes_on_with : {t made h : ℕ} {start now next : GuestState} {latest noted : List (Option Fault)} (stop : Option Stop) (fault : Option Fault) → (is_some stop || is_some fault) ≡ false → h ≡ (t + made) % length start.guest.board.harts → length start.guest.board.harts ≤ 8 → 0 < length start.guest.board.harts → Searched t start now made latest → TurnTaken h now next latest noted stop fault
+pub goes_on_with : {t made h : ℕ} {start now next : GuestState} {latest noted : List (Option Fault)} (stop : Option Stop) (fault : Option Fault) (b : Bool) → b ≡ (is_some stop || is_some fault) → b ≡ false → h ≡ (t + made) % length start.guest.board.harts → length start.guest.board.harts ≤ 8 → 0 < length start.guest.board.harts → Searched t start now made latest → TurnTaken h now next latest noted stop fault
     → Searched t start next (made + 1) noted
-goes_on_with {t} {made} {h} {start} {now} {next} {latest} {noted} None None on hart most some so_far taken =
+goes_on_with {t} {made} {h} {start} {now} {next} {latest} {noted} None None b said on hart most some so_far taken =
     let harts = length now.guest.board.harts in
     let there : 0 < harts = omega (arith, some, so_far.size) in
     more_searched (omega (arith, mod_below (t + made) harts there, most, so_far.size)) there so_far (turn_hart hart so_far taken)
-goes_on_with {t} {made} {h} {start} {now} {next} {latest} {noted} (Some x) fault on hart most some so_far taken = absurd cc
-goes_on_with {t} {made} {h} {start} {now} {next} {latest} {noted} None (Some f) on hart most some so_far taken = absurd cc
+goes_on_with {t} {made} {h} {start} {now} {next} {latest} {noted} (Some x) fault b said on hart most some so_far taken = let no : true ≡ false = sym said ∙ on in absurd cc
+goes_on_with {t} {made} {h} {start} {now} {next} {latest} {noted} None (Some f) b said on hart most some so_far taken = let no : true ≡ false = sym said ∙ on in absurd cc
 
 -- a turn that ends the search
-pub ends_with : {t made h : ℕ} {start now next : GuestState} {latest noted : List (Option Fault)} (count : ℕ) (stop : Option Stop) (fault : Option Fault) → (is_some stop || is_some fault) ≡ true → made < count → h ≡ (t + made) % length start.guest.board.harts → length start.guest.board.harts ≤ 8 → 0 < length start.guest.board.harts → Searched t start now made latest → TurnTaken h now next latest noted stop fault
+pub ends_with : {t made h : ℕ} {start now next : GuestState} {latest noted : List (Option Fault)} (count : ℕ) (stop : Option Stop) (fault : Option Fault) (b : Bool) → b ≡ (is_some stop || is_some fault) → b ≡ true → made < count → h ≡ (t + made) % length start.guest.board.harts → length start.guest.board.harts ≤ 8 → 0 < length start.guest.board.harts → Searched t start now made latest → TurnTaken h now next latest noted stop fault
     → IsSought t count start next (record { made = made + 1; stop = stop }) fault
-ends_with {t} {made} {h} {start} {now} {next} {latest} {noted} count stop (Some f) off more hart most some so_far taken =
+ends_with {t} {made} {h} {start} {now} {next} {latest} {noted} count stop (Some f) b said off more hart most some so_far taken =
     let harts = length now.guest.board.harts in
     let there : 0 < harts = omega (arith, some, so_far.size) in
     ends_shown (count - made - 1) count f (omega (arith, more)) (omega (arith, mod_below (t + made) harts there, most, so_far.size)) there so_far (turn_hart hart so_far taken)
-ends_with {t} {made} {h} {start} {now} {next} {latest} {noted} count (Some x) None off more hart most some so_far taken =
+ends_with {t} {made} {h} {start} {now} {next} {latest} {noted} count (Some x) None b said off more hart most some so_far taken =
     let harts = length now.guest.board.harts in
     let there : 0 < harts = omega (arith, some, so_far.size) in
     ends_stopped (count - made - 1) count x (omega (arith, more)) (omega (arith, mod_below (t + made) harts there, most, so_far.size)) there so_far (turn_hart hart so_far taken)
-ends_with {t} {made} {h} {start} {now} {next} {latest} {noted} count None None off more hart most some so_far taken = absurd cc
+ends_with {t} {made} {h} {start} {now} {next} {latest} {noted} count None None b said off more hart most some so_far taken = let no : false ≡ true = sym said ∙ off in absurd cc

@@ -1,4 +1,4 @@
-use Rattle.std.proofs.Common.{◌≡◌, ◌+◌, ◌%◌, ◌<◌, ◌≤◌, length, sym, ◌∙◌, arith, subst}
+use Rattle.std.proofs.Common.{◌≡◌, ◌+◌, ◌%◌, ◌<◌, ◌≤◌, length, arith, subst}
 use Rattle.rvm_command.proofs.Searching.{IsSought, Searched, TurnTaken, ends_spent, ends_with, goes_on_with, hart_is, none_searched}
 use Rattle.rvm_command.proofs.find_fault.find_fault.Goals as goal
 
@@ -31,7 +31,7 @@ returns-then-ends-clause-turns g c =
     let most : length c.args.board.now.guest.board.harts ≤ 8 = omega (arith, c.harts-harts.ensures.count, c.harts-harts.ensures.bound) in
     let some : 0 < length c.args.board.now.guest.board.harts = omega (arith, c.harts-harts.ensures.count, c.harts-harts.ensures.some) in
     let sought : IsSought c.args.turn c.args.count c.args.board.now c.take_turn-taken.new.board (record { made = c.loop-made.made + 1; stop = c.take_turn-taken.result.stop }) c.take_turn-taken.result.fault =
-    ends_with c.args.count c.take_turn-taken.result.stop c.take_turn-taken.result.fault (sym c.ends.ensures ∙ c.if-ends.true) c.loop-made-test.true hart most some c.loop-made.invariant.searched taken in
+    ends_with c.args.count c.take_turn-taken.result.stop c.take_turn-taken.result.fault c.ends.result c.ends.ensures c.if-ends.true c.loop-made-test.true hart most some c.loop-made.invariant.searched taken in
     rw c.as_last_of.ensures sought.takes
 
 pub returns-then-ends-clause-fault : goal.returns-then-ends-clause-fault
@@ -48,7 +48,7 @@ returns-then-ends-clause-fault g c =
     let most : length c.args.board.now.guest.board.harts ≤ 8 = omega (arith, c.harts-harts.ensures.count, c.harts-harts.ensures.bound) in
     let some : 0 < length c.args.board.now.guest.board.harts = omega (arith, c.harts-harts.ensures.count, c.harts-harts.ensures.some) in
     let sought : IsSought c.args.turn c.args.count c.args.board.now c.take_turn-taken.new.board (record { made = c.loop-made.made + 1; stop = c.take_turn-taken.result.stop }) c.take_turn-taken.result.fault =
-    ends_with c.args.count c.take_turn-taken.result.stop c.take_turn-taken.result.fault (sym c.ends.ensures ∙ c.if-ends.true) c.loop-made-test.true hart most some c.loop-made.invariant.searched taken in
+    ends_with c.args.count c.take_turn-taken.result.stop c.take_turn-taken.result.fault c.ends.result c.ends.ensures c.if-ends.true c.loop-made-test.true hart most some c.loop-made.invariant.searched taken in
     rw c.as_last_of.ensures sought.shows
 
 pub loop-made-preserved : goal.loop-made-preserved
@@ -66,7 +66,7 @@ loop-made-preserved g c =
     let some : 0 < length c.args.board.now.guest.board.harts = omega (arith, c.harts-harts.ensures.count, c.harts-harts.ensures.some) in
     record {
       within = omega (arith, c.loop-made-test.true);
-      searched = goes_on_with c.take_turn-taken.result.stop c.take_turn-taken.result.fault (sym c.ends.ensures ∙ c.if-ends.false) hart most some c.loop-made.invariant.searched taken;
+      searched = goes_on_with c.take_turn-taken.result.stop c.take_turn-taken.result.fault c.ends.result c.ends.ensures c.if-ends.false hart most some c.loop-made.invariant.searched taken;
     }
 
 -- all turns were made
