@@ -1,6 +1,7 @@
 -- How an audit of journals ended.
 use Rattle.std.proofs.Common.{arith, ◌≡◌, ◌∙◌, ℕ, zero, suc, Bool, true, false, List, [], ◌∷◌, ◌++◌, ◌+◌, Global, Vec, map, length, length-append, Option, Some, None, Result, Ok, Err, codes, refl, sym, ap, subst, inl, inr}
 use Rattle.std.specs.Prelude.{IfOk, IfErr, OnErr, slice_get}
+use Rattle.std.specs.Io.KnownBytes.{Appends}
 use denote.Ref.{Bor}
 use Rattle.rvm_audit.specs.Audits.{IsAudit, histories_of}
 use Rattle.rvm_audit.specs.Cuts.{AreContradicted, AreExplained}
@@ -21,7 +22,7 @@ use Rattle.rvm_protocol.specs.World.{new_world}
 use Rattle.rvm_recorder.specs.History.{History, Recording}
 use Rattle.rvm_refusal.specs.declared.refusal.Refusal.TheVariants as refusal
 use Rattle.rvm_replay.specs.Audited.{AreReplayed, IsOrdered, IsWritten, journals_in}
-use Rattle.rvm_replay.specs.Findings.{AreRefuted, AreUndecided, EndsAt, HasAuditStatus, HasFindingStatus, IsFaultTold, IsFinding, IsUntoldAudit, IsUntoldFinding, cuts_of, histories_in, is_cut, name_of}
+use Rattle.rvm_replay.specs.Findings.{AreRefuted, AreUndecided, EndsAt, HasAuditStatus, HasFindingStatus, IsFaultTold, IsFinding, IsUntoldAudit, IsUntoldFinding, cuts_of, histories_in, is_cut, name_of, refuted_text, undecided_text}
 use Rattle.rvm_replay.specs.FileFaults.{fault_line}
 use Rattle.rvm_replay.specs.Unaudited.{IsJournalsFault}
 use Rattle.rvm_replay.specs.declared.journal_audit.AuditText.{AuditText}
@@ -71,13 +72,15 @@ marks_long files (suc x) = length-append (cuts_of files x) (is_cut files x ∷ [
 module _ (files : List JournalFile) (all : List Recording) (text : AuditText) (out out' errors errors' : Option (List ℕ)) where
   -- the journals contradict one another
   pub refuted : (places : ℕ → ℕ) → EndsAt all places → AreContradicted (histories_in all) (cuts_of files (length all))
-      → out' ≡ out → HasFindingStatus 1 files all text out out' errors errors'
-  refuted places ends is same = inl (record { places = places; ends = ends; contradicted = is }, same)
+      → Appends errors errors' (refuted_text files all places) → out' ≡ out
+      → HasFindingStatus 1 files all text out out' errors errors'
+  refuted places ends is told same = inl (record { places = places; ends = ends; contradicted = is; told = told }, same)
 
   -- what was cut off may explain that there is no order
   pub undecided : (places : ℕ → ℕ) → EndsAt all places → AreExplained (histories_in all) (cuts_of files (length all))
-      → out' ≡ out → HasFindingStatus 3 files all text out out' errors errors'
-  undecided places ends is same = (record { places = places; ends = ends; explained = is }, same)
+      → Appends errors errors' (undecided_text files all places) → out' ≡ out
+      → HasFindingStatus 3 files all text out out' errors errors'
+  undecided places ends is told same = (record { places = places; ends = ends; explained = is; told = told }, same)
 
   -- memory ran out, which was reported
   pub out_of_memory : IsTold (refused refusal.OutOfMemory) errors errors' → out' ≡ out
@@ -98,12 +101,14 @@ module _ (files : List JournalFile) (all : List Recording) (text : AuditText) (o
   pub refuted_untold : (places : ℕ → ℕ) → EndsAt all places
       → AreContradicted (histories_in all) (cuts_of files (length all)) → out' ≡ out → IsUntoldFinding files all text out out'
   refuted_untold places ends is same =
-      (1, [], refuted files all text out out' (Some []) (Some []) places ends is same)
+      let report = refuted_text files all places in
+      (1, report, refuted files all text out out' (Some []) (Some report) places ends is refl same)
 
   pub undecided_untold : (places : ℕ → ℕ) → EndsAt all places
       → AreExplained (histories_in all) (cuts_of files (length all)) → out' ≡ out → IsUntoldFinding files all text out out'
   undecided_untold places ends is same =
-      (3, [], undecided files all text out out' (Some []) (Some []) places ends is same)
+      let report = undecided_text files all places in
+      (3, report, undecided files all text out out' (Some []) (Some report) places ends is refl same)
 
   pub memory_untold : out' ≡ out → IsUntoldFinding files all text out out'
   memory_untold same =

@@ -5,6 +5,7 @@ mod JournalFaults
 mod AuditEnds
 mod Counting
 mod SummaryLines
+mod PlaceLines
 pub mod OneWorld
 mod Showing
 mod Replayed

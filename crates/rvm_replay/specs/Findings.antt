@@ -11,9 +11,11 @@ use Rattle.rvm_core.specs.declared.event.Event.{Event}
 use Rattle.rvm_journal.specs.Headers.{header_at}
 use Rattle.rvm_journal.specs.Replaying.{is_whole}
 use Rattle.rvm_recorder.specs.History.{History, Recording}
-use Rattle.rvm_refusal.specs.declared.refusal.Refusal.TheVariants.{LinkFault, OutOfMemory}
+use Rattle.rvm_command.specs.Command.{refused_text}
+use Rattle.rvm_refusal.specs.declared.refusal.Refusal.TheVariants.{LinkFault, NoOrder, OutOfMemory}
 use Rattle.rvm_replay.specs.Audited.{AreAudited, AreReplayed, IsOrdered, is_wanted, journals_in}
 use Rattle.rvm_replay.specs.FileFaults.{fault_line}
+use Rattle.rvm_replay.specs.PlaceLines.{place_lines}
 use Rattle.rvm_replay.specs.Unaudited.{IsJournalsFault}
 use Rattle.rvm_replay.specs.declared.journal_audit.AuditText.{AuditText}
 use Rattle.rvm_replay.specs.declared.journal_audit.Finding.{Finding}
@@ -46,17 +48,28 @@ pub record EndsAt (all : List Recording) (places : ℕ → ℕ) : Type 0 where
   pub events : List Event
   pub order : IsOrder (cut places (journals_in all)) events
 
--- the journals of these hosts contradict one another, whatever was cut off
-pub record AreRefuted (files : List JournalFile) (all : List Recording) : Type 0 where
+-- the report that the journals of these hosts contradict one another: up to which places they have an order, and the refusal
+abbrev pub refuted_text : List JournalFile → List Recording → (places : ℕ → ℕ) → List ℕ
+refuted_text files all places = place_lines files places 0 all ++ (refused_text (refused NoOrder) ++ codes "\n")
+
+-- the report that what was cut off may explain that there is no order beyond these places
+abbrev pub undecided_text : List JournalFile → List Recording → (places : ℕ → ℕ) → List ℕ
+undecided_text files all places =
+    place_lines files places 0 all ++ (codes "undecided: what was cut off may have sent the rest" ++ codes "\n")
+
+-- the journals of these hosts contradict one another, whatever was cut off, which was reported
+pub record AreRefuted (files : List JournalFile) (all : List Recording) (errors errors' : Option (List ℕ)) : Type 0 where
   pub places : ℕ → ℕ
   pub ends : EndsAt all places
   pub contradicted : AreContradicted (histories_in all) (cuts_of files (length all))
+  pub told : Appends errors errors' (refuted_text files all places)
 
--- the journals of these hosts have no order, and what was cut off may explain that
-pub record AreUndecided (files : List JournalFile) (all : List Recording) : Type 0 where
+-- the journals of these hosts have no order, and what was cut off may explain that, which was reported
+pub record AreUndecided (files : List JournalFile) (all : List Recording) (errors errors' : Option (List ℕ)) : Type 0 where
   pub places : ℕ → ℕ
   pub ends : EndsAt all places
   pub explained : AreExplained (histories_in all) (cuts_of files (length all))
+  pub told : Appends errors errors' (undecided_text files all places)
 
 -- what was found of the journals of these hosts
 abbrev pub IsFinding : List JournalFile → List Recording → Finding → Type 0
@@ -70,7 +83,7 @@ IsFinding files all (Undecided places) =
 -- ran out, or a write failed
 abbrev pub IsRefusedFinding : List JournalFile → List Recording → (out out' errors errors' : Option (List ℕ)) → Type 0
 IsRefusedFinding files all out out' errors errors' =
-    (AreRefuted files all × (out' ≡ out))
+    (AreRefuted files all errors errors' × (out' ≡ out))
     ⊎ ((IsTold (refused OutOfMemory) errors errors' × (out' ≡ out)) ⊎ IsTold (refused LinkFault) errors errors')
 
 -- what was found of the journals of these hosts, by the status, and what was written and reported
@@ -79,7 +92,7 @@ abbrev pub HasFindingStatus : (status : ℕ) → List JournalFile → List Recor
 HasFindingStatus zero files all text out out' errors errors' = IsOrdered text all out out' × (errors' ≡ errors)
 HasFindingStatus (suc zero) files all text out out' errors errors' = IsRefusedFinding files all out out' errors errors'
 HasFindingStatus (suc (suc (suc zero))) files all text out out' errors errors' =
-    AreUndecided files all × (out' ≡ out)
+    AreUndecided files all errors errors' × (out' ≡ out)
 HasFindingStatus status files all text out out' errors errors' = ⊥
 
 -- a report of what was found of the journals of these hosts is not complete, since a write to the errors failed: errors
@@ -115,10 +128,10 @@ pub record AreNotAudited (files : List JournalFile) (image : List ℕ) (out out'
   pub same : out' ≡ out
 
 -- the hosts of a world did what their journals tell; that has no order, and what was cut off may explain it
-pub record AreOpen (files : List JournalFile) (image : List ℕ) (out out' : Option (List ℕ)) : Type 0 where
+pub record AreOpen (files : List JournalFile) (image : List ℕ) (out out' errors errors' : Option (List ℕ)) : Type 0 where
   pub all : List Recording
   pub replayed : AreReplayed files image all
-  pub undecided : AreUndecided files all
+  pub undecided : AreUndecided files all errors errors'
   pub same : out' ≡ out
 
 -- what an audit of journals found, by its status, and what was written and reported
@@ -128,7 +141,8 @@ HasAuditStatus zero files image text out out' errors errors' =
     AreAudited files image text out out' × (errors' ≡ errors)
 HasAuditStatus (suc zero) files image text out out' errors errors' =
     AreNotAudited files image out out' errors errors' ⊎ AreNotInOrder files image out out' errors errors'
-HasAuditStatus (suc (suc (suc zero))) files image text out out' errors errors' = AreOpen files image out out'
+HasAuditStatus (suc (suc (suc zero))) files image text out out' errors errors' =
+    AreOpen files image out out' errors errors'
 HasAuditStatus status files image text out out' errors errors' = ⊥
 
 -- a report of an audit is not complete, since a write to the errors failed: errors that held nothing would hold it

@@ -5,4 +5,5 @@ pub mod Replays
 pub mod Counts
 pub mod Audited
 pub mod Unaudited
+pub mod PlaceLines
 pub mod Findings

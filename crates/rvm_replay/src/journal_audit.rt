@@ -13,7 +13,7 @@ ghost use Rattle.rvm_replay.specs.declared.journal_file.JournalFile.{JournalFile
 
 use crate::journal_cuts::cuts_of;
 use crate::journal_file::{JournalFile, JournalsFault};
-use crate::journal_headers::{Wanted, index_of};
+use crate::journal_places::write_places;
 use crate::journal_report::report_fault;
 use crate::journal_summary::write_summary;
 use crate::journal_world::replay_all;
@@ -21,7 +21,6 @@ use rvm_audit::laws::the_guest_of_an_order_never_moves;
 use rvm_audit::{Audit, Order, Place, are_contradictory, audit_all, write_order};
 use rvm_command::flush::flush;
 use rvm_command::refused::{Refused, tell};
-use rvm_journal::letter_of;
 use rvm_mem::PagedMemory;
 use rvm_recorder::{Journal, Recorded};
 use rvm_refusal::{LinkFault, Refusal};
@@ -112,12 +111,12 @@ fn audit_replayed<M: PagedMemory + Drop, O: Write + Drop, E: Write>(
     match find(alloc, files, all) {
         Ok(Finding::InOrder(order)) => write_audit(all, &order, text, output, errors),
         Ok(Finding::Contradicted(places)) => {
-            tell_places(files, all, places.as_slice(), errors)?;
+            write_places(files, all, places.as_slice(), errors)?;
             tell_refusal(Refusal::NoOrder, errors)?;
             Ok(1)
         }
         Ok(Finding::Undecided(places)) => {
-            tell_places(files, all, places.as_slice(), errors)?;
+            write_places(files, all, places.as_slice(), errors)?;
             writeln!(errors, "undecided: what was cut off may have sent the rest")?;
             Ok(UNDECIDED)
         }
@@ -232,39 +231,6 @@ fn tell_refusal<E: Write>(refusal: Refusal, errors: &mut E) -> Result<(), LinkFa
 {
     let _status = tell(Refused::from(refusal), errors)?;
     Ok(())
-}
-
-/// Reports how much of the journal of each host is in order.
-fn tell_places<M: PagedMemory + Drop, E: Write>(
-    files: &[JournalFile<'_>],
-    all: &[Recorded<M>],
-    places: &[Place],
-    errors: &mut E,
-) -> Result<(), LinkFault>
-    requires { length all.now ≤ 8 }
-{
-    for host in 0..all.len().min(places.len()) {
-        let letter = letter_of(host as u8);
-        let entries = places[host].entries;
-        let count = all[host].count();
-        let name = name_of(files, host as u8);
-        writeln!(
-            errors,
-            "{letter}: {entries} of {count} events in order ({name})"
-        )?;
-    }
-    Ok(())
-}
-
-/// The name of the journal of a host.
-fn name_of<'a>(files: &'a [JournalFile<'_>], host: u8) -> &'a str {
-    let Ok(Some(index)) = index_of(files, Wanted::OfHost(host)) else {
-        return "no journal";
-    };
-    match files.get(index) {
-        Some(file) => file.name,
-        None => "no journal",
-    }
 }
 
 /// Writes what is asked for of an order that was found.

@@ -4,8 +4,8 @@ ghost use Rattle.std.specs.Prelude.{◌≡◌, IfOk};
 ghost use Rattle.rvm_replay.specs.Findings.{cuts_of, is_cut, is_cut_of};
 
 use crate::journal_file::JournalFile;
-use crate::journal_headers::{Wanted, is_wanted};
-use rvm_journal::{is_whole, read_header};
+use crate::journal_places::is_of;
+use rvm_journal::is_whole;
 use std::alloc::{AllocError, Global};
 
 /// For each of this many hosts, whether its journal was cut off. The journal of a host that has none was not.
@@ -34,8 +34,5 @@ fn is_cut(files: &[JournalFile<'_>], host: u8) -> bool
 fn is_cut_of(file: &JournalFile<'_>, host: u8) -> bool
     ensures { result ≡ is_cut_of host file.now }
 {
-    match read_header(&file.bytes) {
-        Some(header) => is_wanted(Wanted::OfHost(host), &header) && !is_whole(&file.bytes),
-        None => false,
-    }
+    is_of(file, host) && !is_whole(&file.bytes)
 }

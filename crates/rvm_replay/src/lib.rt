@@ -6,7 +6,7 @@
 //!
 //! To be read in this order: `journal_file`, `journal_hosts`, `journal_report`, `console_of_journal`, `replay_command`,
 //! `replay_session`; `journal_headers`, `journal_world`, `journal_cuts`, `journal_counts`, `journal_summary`,
-//! `journal_audit`.
+//! `journal_places`, `journal_audit`.
 #![tactic(auto)]
 
 mod console_of_journal;
@@ -16,6 +16,7 @@ mod journal_cuts;
 pub mod journal_file;
 mod journal_headers;
 mod journal_hosts;
+mod journal_places;
 mod journal_report;
 mod journal_summary;
 mod journal_world;

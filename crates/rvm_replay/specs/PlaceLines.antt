@@ -1,0 +1,28 @@
+-- How far the journals of hosts are in order, in lines.
+use Rattle.std.specs.Fmt.{decimal}
+use Rattle.std.specs.Prelude.{ℕ, ◌+◌, if◌then◌else◌, List, [], ◌∷◌, ◌++◌, codes}
+use Rattle.rvm_journal.specs.Headers.{header_at}
+use Rattle.rvm_recorder.specs.History.{Recording, count_of}
+use Rattle.rvm_replay.specs.Audited.{is_wanted}
+use Rattle.rvm_replay.specs.declared.journal_file.JournalFile.{JournalFile}
+use Rattle.rvm_replay.specs.declared.journal_headers.Wanted.TheVariants.{OfHost}
+
+-- the name of the file of a host's journal
+abbrev pub journal_name : (host : ℕ) → List JournalFile → List ℕ
+journal_name x [] = codes "no journal"
+journal_name x (f ∷ fs) =
+    if is_wanted (OfHost x) (header_at f.bytes.items) then f.name.now else journal_name x fs
+
+-- how many of so many events of the journal in a file are in order
+abbrev pub place_text : (place count : ℕ) → (name : List ℕ) → List ℕ
+place_text place count name =
+    codes ": " ++ decimal place ++ codes " of " ++ decimal count ++ codes " events in order (" ++ name ++ codes ")" ++ codes "\n"
+
+-- the line of the host with this number, by its letter
+abbrev pub place_line : List JournalFile → (host place : ℕ) → Recording → List ℕ
+place_line files x place r = (65 + x) ∷ place_text place (count_of r) (journal_name x files)
+
+-- the lines of hosts, the first of which has this number
+abbrev pub place_lines : List JournalFile → (places : ℕ → ℕ) → (host : ℕ) → List Recording → List ℕ
+place_lines files places x [] = []
+place_lines files places x (r ∷ rs) = place_line files x (places x) r ++ place_lines files places (x + 1) rs
