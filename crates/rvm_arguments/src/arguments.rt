@@ -75,6 +75,9 @@ pub struct RunArguments<'a> {
     pub trace: Option<TraceArguments<'a>>,
     /// What is reported of the run after its last turn, if anything.
     pub report: Option<ReportArguments<'a>>,
+    /// The seed by which the hart of each turn is drawn, if one is given. Without one the harts take turns in the order
+    /// of their numbers.
+    pub seed: Option<u32>,
     ghost steps_allowed: { (1 ≤ steps) × (steps ≤ 1000000000) },
 }
 

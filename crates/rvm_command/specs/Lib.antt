@@ -1,3 +1,4 @@
+pub mod Order
 pub mod Run
 pub mod Slices
 pub mod Taken

@@ -106,7 +106,8 @@ IsReport pages rows None =
     × (first_of (codes "profile") rows ≡ None)
 IsReport pages rows (Some r) = IsReportTo pages rows r.file.now r.report
 
--- a guest, its input, its turns, what the status tells, what is looked at while it runs, and what is reported of it
+-- a guest, its input, its turns, what the status tells, what is looked at while it runs, what is reported of it, and the
+-- seed of the order of its harts
 pub record IsRun (rows : List Row) (run : RunArguments) : Type 0 where
   pub guest : IsGuest rows run.guest
   pub input : first_of (codes "input") rows ≡ option_map (λ s. s.now) run.input
@@ -115,6 +116,7 @@ pub record IsRun (rows : List Row) (run : RunArguments) : Type 0 where
   pub stop_at_fault : IsFlag (one_of (codes "stop-at-fault") rows) run.stop_at_fault
   pub trace : IsTrace rows run.trace
   pub report : IsReport run.guest.pages rows run.report
+  pub seed : IsOptionalNumber (first_of (codes "order") rows) run.seed
 
 -- a guest, and whether the session is extended
 pub record IsDebug (rows : List Row) (asked : DebugArguments) : Type 0 where

@@ -165,6 +165,9 @@ fn read_run<'a>(run: &ArgMatches<'a>) -> Result<Arguments<'a>, &'static str>
     };
     let status = read_status(run)?;
     let report = read_report(run, guest.pages)?;
+    let Some(seed) = optional_number(run, "order", 0, u32::MAX) else {
+        return Err("--order takes a decimal number from 0 to 4294967295");
+    };
     Ok(Arguments::Run(RunArguments {
         guest,
         input: text(run, "input"),
@@ -173,6 +176,7 @@ fn read_run<'a>(run: &ArgMatches<'a>) -> Result<Arguments<'a>, &'static str>
         stop_at_fault: flag(run, "stop-at-fault"),
         trace: read_trace(run)?,
         report,
+        seed,
     }))
 }
 
