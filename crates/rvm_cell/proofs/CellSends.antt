@@ -4,7 +4,7 @@ use denote.Param.Send.{IsSend, IsSync, sendable}
 use Rattle.std.proofs.Crossing.{crosses}
 use Rattle.rvm_mem.specs.declared.memory.Memory as Memory
 use Rattle.rvm_host.proofs.Sends.{host_send}
-use Rattle.rvm_cell.specs.declared.log.EventLog as EventLog
+use Rattle.rvm_recorder.specs.declared.log.EventLog as EventLog
 use Rattle.rvm_cell.specs.declared.origin.Opening as Opening
 use Rattle.rvm_cell.specs.contracts.reached.Reached as Reached
 use Rattle.rvm_cell.specs.contracts.cell.HostCell as HostCell

@@ -4,7 +4,8 @@ use Rattle.rvm_hart.specs.declared.outcome.Stepped.TheVariants.{Halted}
 use Rattle.rvm_message.specs.declared.event.Command.TheVariants.{Abort, Copy}
 use Rattle.rvm_message.specs.declared.event.HostEvent.TheVariants.{Do}
 use Rattle.rvm_message.specs.Exchanges.{step_of_hart}
-use Rattle.rvm_cell.specs.Logs.{IsEmpty, KeepsOn, made_in, steps_from}
+use Rattle.rvm_recorder.specs.Logs.{IsEmpty, KeepsOn, steps_from}
+use Rattle.rvm_cell.specs.Logs.{made_in}
 
 three_turns_of_two_harts : steps_from 5 2 3 ≡ step_of_hart 1 ∷ step_of_hart 0 ∷ step_of_hart 1 ∷ []
 unfolding steps_from

@@ -1,7 +1,7 @@
 -- What a log kept after one more call of its host.
 use Rattle.std.proofs.Common.{◌≡◌, ◌∙◌, ℕ, zero, suc, ◌+◌, ◌-◌, ◌^◌, ◌<◌, ◌≤◌, ◌%◌, List, [], ◌∷◌, ◌++◌, Option, None, Some, true, map, ap, arith, refl, subst, sym}
 use Rattle.std.proofs.lemmas.Grind.{fold-append}
-use Rattle.std.proofs.lemmas.List.{append-nil, map-append}
+use Rattle.std.proofs.lemmas.List.{map-append}
 use Rattle.std.specs.List.{fold}
 use Rattle.std.specs.Prelude.{is_some}
 use Rattle.rvm_board.specs.declared.retiring.Retired as told
@@ -17,7 +17,8 @@ use Rattle.rvm_message.specs.Events.{event_of}
 use Rattle.rvm_message.specs.Exchanges.{step_of_hart}
 use Rattle.rvm_message.specs.Steps.{reply_to_step}
 use Rattle.rvm_cell.specs.Events.{IsReached, next_at}
-use Rattle.rvm_cell.specs.Logs.{IsEmpty, IsLogged, IsTold, KeepsOn, made_in, steps_from, steps_to}
+use Rattle.rvm_recorder.specs.Logs.{IsEmpty, KeepsOn, steps_from}
+use Rattle.rvm_cell.specs.Logs.{IsLogged, IsTold, made_in, steps_to}
 use Rattle.rvm_cell.proofs.Events as events
 
 -- EVENTS THAT LEAD FROM A HOST TO ANOTHER ONE
@@ -135,8 +136,3 @@ pub same_kept : (o h : PlainHost) (before now : Option (List HostEvent)) → IsL
     → IsLogged now o h
 same_kept o h before now was keeps =
     record { reached = was.reached; told = kept_on o h h before now [] was.told keeps refl }
-
--- nothing is kept
-pub nothing_kept : (kept : Option (List HostEvent)) → KeepsOn kept kept []
-nothing_kept None = refl
-nothing_kept (Some kept) = sym (append-nil kept)

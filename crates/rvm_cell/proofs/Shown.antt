@@ -15,7 +15,8 @@ use Rattle.rvm_message.specs.declared.reply.HostReply.{HostReply}
 use Rattle.rvm_message.specs.declared.reply.HostReply.TheVariants as reply
 use Rattle.rvm_message.specs.Exchanges.{PlainExchange, exchange}
 use Rattle.rvm_link.proofs.Pieces.{both_added}
-use Rattle.rvm_cell.specs.Console.{IsInput, IsShown, all_taken, bytes_in, taken_by}
+use Rattle.rvm_cell.specs.Console.{IsInput, IsShown, all_taken}
+use Rattle.rvm_message.specs.Taken.{bytes_in, taken_by}
 
 none_added : (bytes : Option (List ℕ)) → Appends bytes bytes []
 none_added None = tt

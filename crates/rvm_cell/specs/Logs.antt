@@ -1,29 +1,12 @@
--- What is kept of the events that happen at a host.
+-- What the log of a host kept of the events that lead to it.
 use Rattle.std.specs.List.{fold}
-use Rattle.std.specs.Prelude.{◌≡◌, ⊤, ℕ, zero, suc, ◌+◌, ◌%◌, List, [], ◌∷◌, ◌++◌, map, Option, None, Some}
+use Rattle.std.specs.Prelude.{◌≡◌, ⊤, ℕ, suc, List, map, Option, None, Some}
 use Rattle.rvm_board.specs.declared.retiring.Retired.{Retired}
 use Rattle.rvm_hart.specs.declared.outcome.Stepped.{Stepped}
 use Rattle.rvm_host.specs.Hosts.{PlainHost, host_of}
 use Rattle.rvm_message.specs.declared.event.HostEvent.{HostEvent}
 use Rattle.rvm_message.specs.Events.{event_of}
-use Rattle.rvm_message.specs.Exchanges.{step_of_hart}
 use Rattle.rvm_cell.specs.Events.{IsReached, next_at}
-
--- nothing was kept yet, or it is not known what was
-abbrev pub IsEmpty : Option (List HostEvent) → Type 0
-IsEmpty None = ⊤
-IsEmpty (Some events) = events ≡ []
-
--- these events were kept after those before them; once not all were kept, it stays so
-abbrev pub KeepsOn : (old new : Option (List HostEvent)) → List HostEvent → Type 0
-KeepsOn None new events = new ≡ None
-KeepsOn (Some old) None events = ⊤
-KeepsOn (Some old) (Some new) events = new ≡ old ++ events
-
--- the events of n turns of this many harts, one after the other, from turn `turn` on
-unfoldable pub steps_from : (turn harts n : ℕ) → List HostEvent
-steps_from turn harts zero = []
-steps_from turn harts (suc n) = step_of_hart (turn % harts) ∷ steps_from (turn + 1) harts n
 
 -- how many steps were made, if the last one, which may be none, was made after this many
 abbrev pub steps_to : (count : ℕ) → (last : Option Stepped) → ℕ

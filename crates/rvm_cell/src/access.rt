@@ -8,7 +8,6 @@ ghost use Rattle.rvm_message.specs.declared.event.Command.TheVariants.{Copy};
 ghost use Rattle.rvm_message.specs.declared.event.HostEvent.TheVariants.{Came, Do};
 
 use crate::cell::HostCell;
-use crate::log::EventLog;
 use crate::origin::{Hosting, Of, Opening};
 use crate::turns::Slice;
 use rvm_frame::Frame;
@@ -16,6 +15,7 @@ use rvm_host::HostStatus;
 use rvm_link::Made;
 use rvm_mem::PagedMemory;
 use rvm_message::{Command, HostReply};
+use rvm_recorder::EventLog;
 use std::alloc::{AllocError, Global};
 use std::sync::Wait;
 

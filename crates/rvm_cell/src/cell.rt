@@ -3,12 +3,11 @@
 ghost use Rattle.std.specs.Prelude.{◌≡◌, ◌≤◌, IfOk};
 ghost use Rattle.rvm_cell.specs.Events.{IsAnswer};
 ghost use Rattle.rvm_cell.specs.Halts.{HaltsSo};
-ghost use Rattle.rvm_cell.specs.Logs.{IsEmpty};
+ghost use Rattle.rvm_recorder.specs.Logs.{IsEmpty};
 ghost use Rattle.rvm_message.specs.declared.event.Command.TheVariants.{Copy};
 ghost use Rattle.rvm_message.specs.declared.event.HostEvent.TheVariants.{Came, Do};
 
 use crate::copies::copy_some;
-use crate::log::EventLog;
 use crate::origin::{Of, Opening};
 use crate::reached::Reached;
 use crate::turns::{Slice, make_slice};
@@ -17,6 +16,7 @@ use rvm_host::{Host, HostStatus};
 use rvm_link::Made;
 use rvm_mem::PagedMemory;
 use rvm_message::{Command, HostReply};
+use rvm_recorder::EventLog;
 use rvm_refusal::LinkFault;
 use std::alloc::{AllocError, Global};
 use std::sync::{Mutex, Wait};

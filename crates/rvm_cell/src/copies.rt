@@ -5,12 +5,12 @@ ghost use Rattle.rvm_cell.specs.Events.{IsAnswer};
 ghost use Rattle.rvm_message.specs.declared.event.Command.TheVariants.{Copy};
 ghost use Rattle.rvm_message.specs.declared.event.HostEvent.TheVariants.{Do};
 
-use crate::log::EventLog;
 use crate::origin::{Of, Opening};
 use crate::reached::Reached;
 use rvm_link::Made;
 use rvm_mem::PagedMemory;
 use rvm_message::{Command, HostReply};
+use rvm_recorder::EventLog;
 use std::alloc::{AllocError, Global};
 
 /// Has a host copy pages, at least one and at most `most`, up to the first reply that is no copy. Returns the last

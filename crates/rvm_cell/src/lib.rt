@@ -10,7 +10,7 @@
 //! started, or what becomes of their receipts.
 //!
 //! To be read in this order: `task`, `gate`, `end`, `steps`, `heap`, `caller`, `telling`, `next`, `copying`, `copier`,
-//! `stream`, `hearing`, `receiver`; `slices`, `pair`, `harts`; `origin`, `log`, `reached`, `turns`, `copies`, `cell`,
+//! `stream`, `hearing`, `receiver`; `slices`, `pair`, `harts`; `origin`, `reached`, `turns`, `copies`, `cell`,
 //! `access`; `news`, `station`, `host_hearing`, `input`, `console`, `course`, `pace`, `host_harts`, `mover`.
 #![tactic(auto)]
 
@@ -30,7 +30,6 @@ mod hearing;
 mod host_harts;
 mod host_hearing;
 mod input;
-mod log;
 mod mover;
 mod news;
 mod next;
@@ -58,7 +57,6 @@ pub use harts::{HartsWorked, TurnsEnd, hart_worker};
 pub use host_harts::{HartsEnd, HartsPlan, harts_worker};
 pub use host_hearing::{HearEnd, hear};
 pub use input::{InputQueue, read_input};
-pub use log::{EventLog, NoLog};
 pub use mover::{MoveEnd, MovePlan, move_away};
 pub use news::{MoveNews, News};
 pub use origin::{Hosting, Of, Opening};

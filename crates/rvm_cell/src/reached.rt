@@ -3,7 +3,8 @@
 ghost use Rattle.std.specs.Prelude.{◌≡◌, ◌-◌, ◌%◌, ◌^◌, ◌<◌, ◌≤◌, IfOk, IfSome, OnErr, None, is_some, true};
 ghost use Rattle.rvm_cell.specs.Events.{IsAnswer, IsMade};
 ghost use Rattle.rvm_cell.specs.Halts.{IsOfStep};
-ghost use Rattle.rvm_cell.specs.Logs.{IsEmpty, made_in};
+ghost use Rattle.rvm_cell.specs.Logs.{made_in};
+ghost use Rattle.rvm_recorder.specs.Logs.{IsEmpty};
 ghost use Rattle.rvm_host.specs.Hosts.{Steps};
 ghost use Rattle.rvm_host.specs.Retiring.{HostRetires};
 ghost use Rattle.rvm_host.specs.Statuses.{harts_of, status_of};
@@ -13,7 +14,6 @@ ghost use Rattle.rvm_message.specs.Exchanges.{dry_exchange, step_of_hart};
 ghost use Rattle.rvm_message.specs.Steps.{reply_to_step};
 ghost use Rattle.rvm_message.specs.declared.step.StepReply.TheVariants.{Stepped};
 
-use crate::log::EventLog;
 use crate::origin::{Of, Opening};
 use rvm_board::Retired;
 use rvm_frame::{Addressed, Frame};
@@ -21,6 +21,7 @@ use rvm_host::{Host, HostStatus};
 use rvm_link::Made;
 use rvm_mem::PagedMemory;
 use rvm_message::{Command, HostReply, StepReply};
+use rvm_recorder::EventLog;
 use rvm_refusal::LinkFault;
 use std::alloc::{AllocError, Global};
 use std::marker::{Model, PhantomData};

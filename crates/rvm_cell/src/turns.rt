@@ -5,7 +5,6 @@ ghost use Rattle.rvm_cell.specs.Events.{IsAnswer};
 ghost use Rattle.rvm_cell.specs.Halts.{HaltsSo, IsOfStep};
 ghost use Rattle.rvm_message.specs.Steps.{reply_to_step};
 
-use crate::log::EventLog;
 use crate::origin::Opening;
 use crate::reached::Reached;
 use crate::slices::Then;
@@ -13,6 +12,7 @@ use rvm_board::DRAIN_SIZE;
 use rvm_hart::Stepped;
 use rvm_mem::PagedMemory;
 use rvm_message::StepReply;
+use rvm_recorder::EventLog;
 
 /// What a slice of turns did.
 #[derive(Clone, Copy, Debug, PartialEq, Eq)]

@@ -1,12 +1,4 @@
 pub mod Hosted
 pub mod Told
 pub mod Answered
-pub mod Journals
-pub mod FileFaults
-pub mod Consoles
-pub mod Replays
-pub mod Counts
-pub mod Audited
-pub mod Unaudited
-pub mod Findings
 pub mod Processes

@@ -4,7 +4,6 @@ ghost use Rattle.std.specs.Prelude.{◌≡◌, ◌++◌, codes, IfOk, IfSome};
 ghost use Rattle.std.specs.Io.KnownBytes.{Appends};
 ghost use Rattle.rvm_cell.specs.Movers.{IsMoveEnd};
 ghost use Rattle.rvm_host_command.specs.Told.{AreStepsTold, IsAskedTold, IsCommandTold, IsEventTold, IsInputTold, IsLastInput, IsLastStep, IsLineTold, IsMoveTold, outcome_of};
-ghost use Rattle.rvm_host_command.specs.Unaudited.{letter_of};
 ghost use Rattle.rvm_message.specs.declared.event.Command.TheVariants as command;
 ghost use Rattle.rvm_message.specs.declared.event.HostEvent.TheVariants.{Do};
 ghost use Rattle.rvm_refusal.specs.Refusal.{text_of};
@@ -17,6 +16,7 @@ use rvm_cell::{
 use rvm_core::{Asked, WorldLine, write_guest_reply, write_move_reply, write_steps_reply};
 use rvm_debug::{HexText, Line, address_of, is_refused};
 use rvm_host::ModeKind;
+use rvm_journal::letter_of;
 use rvm_message::{Command, HostReply};
 use rvm_precopy::Policy;
 use rvm_refusal::{LinkFault, Refusal};
@@ -162,13 +162,6 @@ fn name_of(kind: ModeKind) -> &'static str {
         ModeKind::Staging => "staging",
         ModeKind::Held => "held",
     }
-}
-
-/// The letter of a host.
-pub(crate) fn letter_of(host: u8) -> char
-    ensures { result ≡ letter_of host }
-{
-    char::from(b'A'.saturating_add(host))
 }
 
 /// The least number of milliseconds between two lines that report how far a move has come.

@@ -3,11 +3,10 @@
 ghost use Rattle.std.specs.Prelude.{◌≡◌, ◌≢◌, ◌≤◌, ◌⊎◌, IfErr, IfOk, true};
 ghost use Rattle.rvm_host_command.specs.Hosted.{HasBegun, IsGuestOf, IsHosted, IsHostedTo, IsNamed, host_status, status_told};
 ghost use Rattle.std.specs.Option.{option_and_then};
-ghost use Rattle.rvm_cell.specs.Logs.{IsEmpty};
+ghost use Rattle.rvm_recorder.specs.Logs.{IsEmpty};
 ghost use Rattle.rvm_cell.specs.declared.host_harts.HartsEnd.TheVariants.{ConsoleFault};
 
 use crate::address::{checked_address, is_path, listen_at, listen_for_operators};
-use crate::answers::letter_of;
 use crate::fault::{HostFault, Place};
 use crate::hosting::{HostPlan, HostStart, Numbers, draw_numbers, work_at};
 use crate::operators::Operators;
@@ -16,7 +15,7 @@ use rvm_board::Debugged;
 use rvm_cell::{HartsEnd, InputQueue};
 use rvm_command::guest::load_guest;
 use rvm_greeting::{Peers, Secret, read_peers};
-use rvm_journal::{Header, Image, JournalWriter};
+use rvm_journal::{Header, Image, JournalWriter, letter_of};
 use rvm_mem::PagedMemory;
 use rvm_refusal::LinkFault;
 use std::alloc::Global;

@@ -2,7 +2,7 @@
 
 ghost use Rattle.std.specs.Prelude.{◌≡◌, ◌≢◌, IfErr, IfOk, length};
 ghost use Rattle.rvm_host_command.specs.Hosted.{HasWorked, opening_of};
-ghost use Rattle.rvm_cell.specs.Logs.{IsEmpty};
+ghost use Rattle.rvm_recorder.specs.Logs.{IsEmpty};
 ghost use Rattle.rvm_cell.specs.declared.host_harts.HartsEnd.TheVariants.{ConsoleFault};
 
 use crate::door::Door;
@@ -13,13 +13,14 @@ use crate::threads::work_beside;
 use crate::turns::Turns;
 use rvm_board::Debugged;
 use rvm_cell::{
-    EventLog, HartsEnd, HartsPlan, HostCell, Hosting, InputQueue, News, Of, Opening,
-    STREAM_VERSION, Station, take_back,
+    HartsEnd, HartsPlan, HostCell, Hosting, InputQueue, News, Of, Opening, STREAM_VERSION, Station,
+    take_back,
 };
 use rvm_greeting::{Peers, Registry, Secret};
 use rvm_host::Host;
 use rvm_link::Routes;
 use rvm_mem::{MAX_PAGES, PagedMemory};
+use rvm_recorder::EventLog;
 use rvm_refusal::LinkFault;
 use std::alloc::{AllocError, Global};
 use std::io;

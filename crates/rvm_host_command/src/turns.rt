@@ -6,9 +6,10 @@ ghost use Rattle.rvm_cell.specs.declared.host_harts.HartsEnd.TheVariants.{Consol
 
 use crate::process::Process;
 use rvm_cell::{
-    CellAccess, EventLog, HartsEnd, HostCell, Hosting, InputQueue, Of, Opening, Task, harts_worker,
+    CellAccess, HartsEnd, HostCell, Hosting, InputQueue, Of, Opening, Task, harts_worker,
 };
 use rvm_mem::PagedMemory;
+use rvm_recorder::EventLog;
 use std::io::{Read, Write};
 use std::net::OpenStream;
 use std::sync::Wait;

@@ -9,7 +9,7 @@ use Rattle.std.proofs.lemmas.List.{append-nil, length-map, map-append}
 use Rattle.std.proofs.lemmas.Option.{same_Some}
 use Rattle.hex.specs.Hex.{decode_of}
 use Rattle.hex.specs.declared.error.FromHexError.{FromHexError}
-use Rattle.rvm_cell.specs.Logs.{steps_from}
+use Rattle.rvm_recorder.specs.Logs.{steps_from}
 use Rattle.rvm_core.specs.WorldLines.{world_line_of}
 use Rattle.rvm_debug.specs.Lines.{numeral}
 use Rattle.rvm_debug.specs.Words.{lines, words}

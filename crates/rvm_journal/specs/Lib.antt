@@ -4,3 +4,4 @@ pub mod Written
 pub mod Headers
 pub mod Replaying
 pub mod Whole
+pub mod Letters

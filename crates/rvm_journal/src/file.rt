@@ -2,7 +2,7 @@
 
 ghost use Rattle.std.specs.Prelude.{◌≡◌, ◌++◌, ◌∷◌, [], None, Some, IfOk, OnOk, codes, length, true};
 ghost use Rattle.std.specs.List.{list_all};
-ghost use Rattle.rvm_cell.specs.Logs.{IsEmpty, steps_from};
+ghost use Rattle.rvm_recorder.specs.Logs.{IsEmpty, steps_from};
 ghost use Rattle.rvm_journal.specs.Noting.{events_of, noted_of};
 ghost use Rattle.rvm_journal.specs.Told.{mark};
 ghost use Rattle.rvm_journal.specs.Written.{Keeping, Puts, is_no_feed, kept_of, waiting, with_more};

@@ -1,16 +1,17 @@
 //! Journals of hosts in files: a line for each event of a host, or for a run of turns, chained by SHA-256. What a writer
 //! wrote tells a reader the events of the host, in their order.
 //!
-//! Stands on `rvm_core` for the lines of commands, on `rvm_frame` for frames, on `rvm_cell` for the log of a host, on
-//! `rvm_recorder` for the host that does again what a journal tells, and on `sha2` and `hex`. It must not know files,
+//! Stands on `rvm_core` for the lines of commands, on `rvm_frame` for frames, on `rvm_recorder` for the log
+//! of a host and for the host that does again what a journal tells, and on `sha2` and `hex`. It must not know files,
 //! processes or threads.
 //!
-//! To be read in this order: `run`, `noted`, `digest`, `texts`, `header`, `file`, `writer`, `whole`, `replay`.
+//! To be read in this order: `run`, `noted`, `digest`, `texts`, `header`, `file`, `writer`, `whole`, `replay`; `letter`.
 #![tactic(auto)]
 
 mod digest;
 mod file;
 mod header;
+mod letter;
 mod noted;
 mod replay;
 mod run;
@@ -20,6 +21,7 @@ mod writer;
 
 pub use digest::LineDigest;
 pub use header::{Header, Image};
+pub use letter::letter_of;
 pub use noted::Noted;
 pub use replay::{JournalFault, is_whole, read_header, replay_journal};
 pub use run::Run;

@@ -1,7 +1,7 @@
 //! Consecutive turns of harts.
 
 ghost use Rattle.std.specs.Prelude.{◌≡◌, ◌%◌, ◌+◌, ◌++◌, ◌<◌, ◌≤◌, IfSome};
-ghost use Rattle.rvm_cell.specs.Logs.{steps_from};
+ghost use Rattle.rvm_recorder.specs.Logs.{steps_from};
 ghost use Rattle.rvm_journal.specs.Replaying.{first_of};
 
 /// Consecutive turns: so many steps of 1 to 8 harts, one after the other, the first by hart `first`.

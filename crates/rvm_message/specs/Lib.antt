@@ -7,3 +7,4 @@ pub mod Sendable
 pub mod Steps
 pub mod Turns
 pub mod Exchanges
+pub mod Taken

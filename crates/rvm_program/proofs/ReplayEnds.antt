@@ -8,7 +8,7 @@ use Rattle.std.specs.Str.{bytes_eq}
 use Rattle.rvm_arguments.specs.declared.arguments.ReplayArguments.{ReplayArguments}
 use Rattle.rvm_command.specs.Command.{refused_text}
 use Rattle.rvm_command.specs.Refusals.{refused}
-use Rattle.rvm_host_command.specs.Replays.{HasAnswered, HasReplayStatus, HasSessionStatus, IsNoSession, IsUntold}
+use Rattle.rvm_replay.specs.Replays.{HasAnswered, HasReplayStatus, HasSessionStatus, IsNoSession, IsUntold}
 use Rattle.rvm_program.specs.Ended.{IsAnswerEnd, IsFileOrNone, IsGiven, IsJournal, IsNotBegun, IsReplayEnd, IsReplayed, IsSession, ReplayEnded, ToTell, Written, written}
 use Rattle.rvm_program.specs.Files.{IsFileRefusal, IsOpened, IsRefusedFile, Named, file_text}
 use Rattle.rvm_refusal.specs.declared.refusal.Refusal.{Refusal}

@@ -21,13 +21,13 @@ use Rattle.rvm_command.specs.declared.refused.Refused.{Refused}
 use Rattle.rvm_command.specs.declared.run.Ended.{Ended}
 use Rattle.rvm_command.specs.Ends.{HasStatus, IsAsmEnd, IsDebugEnd, IsListEnd, IsRunEnd, RunHasStatus}
 use Rattle.rvm_command.specs.Refusals.{IsTold, refused}
-use Rattle.rvm_host_command.specs.Replays.{HasReplayStatus, HasSessionStatus}
+use Rattle.rvm_replay.specs.Replays.{HasReplayStatus, HasSessionStatus}
 use Rattle.rvm_host_command.specs.Hosted.{IsHostedTo}
-use Rattle.rvm_host_command.specs.Findings.{HasAuditStatus}
+use Rattle.rvm_replay.specs.Findings.{HasAuditStatus}
 use Rattle.rvm_journal.specs.Whole.{AreWholeLines}
-use Rattle.rvm_host_command.specs.declared.journal_audit.AuditText.{AuditText}
-use Rattle.rvm_host_command.specs.declared.journal_audit.AuditText.TheVariants.{Order, Summary}
-use Rattle.rvm_host_command.specs.declared.journal_file.JournalFile.{JournalFile}
+use Rattle.rvm_replay.specs.declared.journal_audit.AuditText.{AuditText}
+use Rattle.rvm_replay.specs.declared.journal_audit.AuditText.TheVariants.{Order, Summary}
+use Rattle.rvm_replay.specs.declared.journal_file.JournalFile.{JournalFile}
 use Rattle.rvm_move.specs.Ended.{IsMoved, IsNotMoved}
 use Rattle.rvm_move.specs.Orders.{IsAudited, IsNotAudited}
 use Rattle.rvm_program.specs.Files.{IsApart, IsCreated, IsFile, IsFileRefusal, IsImage, IsInput, IsOpened, IsRefusedFile, IsUnread, Named, file_text, symbols_name}

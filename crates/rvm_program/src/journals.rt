@@ -2,7 +2,7 @@
 //! image first, and calls the command over values. If a file is refused, each writes its name and the refusal.
 
 ghost use Rattle.std.specs.Prelude.{◌≡◌, [], ◌∷◌, ◌++◌, IfErr, IfOk, OnErr, OnOk};
-ghost use Rattle.rvm_host_command.specs.Replays.{HasReplayStatus};
+ghost use Rattle.rvm_replay.specs.Replays.{HasReplayStatus};
 ghost use Rattle.rvm_program.specs.Ended.{AreJournals, IsAnswerEnd, IsAuditEnd, IsFileOrNone, IsJournal, IsOneMore, IsReplayed, JournalsEnded, ReplayEnded, ToTell, text_of, written};
 ghost use Rattle.rvm_program.specs.Files.{IsFile, IsRefusedFile, Named};
 
@@ -10,13 +10,13 @@ use crate::commands::{STANDARD_INPUT, Told, buffered, read_told, tell_file};
 use crate::files::{MAX_JOURNAL_SIZE, NamedFiles, read_file};
 use rvm_arguments::{AuditJournalsArguments, ReplayArguments};
 use rvm_command::refused::{Refused, tell};
-use rvm_host_command::journal_audit::{AuditText, audit_journals as audit_files};
-use rvm_host_command::journal_file::JournalFile;
-use rvm_host_command::replay_command::replay_command;
-use rvm_host_command::replay_session::replay_session;
 use rvm_journal::whole_size;
 use rvm_mem::PagedMemory;
 use rvm_refusal::Refusal;
+use rvm_replay::journal_audit::{AuditText, audit_journals as audit_files};
+use rvm_replay::journal_file::JournalFile;
+use rvm_replay::replay_command::replay_command;
+use rvm_replay::replay_session::replay_session;
 use std::alloc::{AllocError, Global};
 use std::io::{Read, Write};
 

@@ -16,3 +16,4 @@ pub mod Tellings
 pub mod RoundsTold
 pub mod SharedSends
 pub mod Flat
+pub mod Logs

@@ -15,3 +15,4 @@ pub mod Telling
 pub mod Calls
 pub mod Close
 pub mod Closing
+pub mod Logs

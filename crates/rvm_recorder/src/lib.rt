@@ -6,7 +6,7 @@
 //!
 //! To be read in this order: `frame_bytes`, `entry`, `steps`, `rounds`, `item`, `left`, `run`, `journal`, `error`,
 //! `recorded`, `slice`; then `seat`, `receipt`, `step_receipts`, `round_receipts`, `items`, `locked`, `shared`,
-//! `closing`.
+//! `closing`. What others keep of a host's events has a module of its own: `log`.
 #![tactic(auto)]
 
 mod closing;
@@ -18,6 +18,7 @@ mod items;
 mod journal;
 mod left;
 mod locked;
+mod log;
 mod receipt;
 mod recorded;
 mod round_receipts;
@@ -38,6 +39,7 @@ pub use items::{ReceiptItem, push_receipt};
 pub use journal::Journal;
 pub use left::{Left, Told, exchange_in, hart_behind, row_at};
 pub use locked::Locked;
+pub use log::{EventLog, NoLog};
 pub use receipt::Receipt;
 pub use recorded::{MAX_CAPACITY, Recorded};
 pub use round_receipts::RoundReceipts;

@@ -3,13 +3,14 @@
 ghost use Rattle.std.specs.Prelude.{◌≡◌};
 
 use rvm_board::{Board, Debugged};
-use rvm_cell::{EventLog, HostCell, NoLog, Opening, Slice, Then};
+use rvm_cell::{HostCell, Opening, Slice, Then};
 use rvm_frame::Frame;
 use rvm_hart::RAM_BASE;
 use rvm_host::{Host, ModeKind};
 use rvm_mem::{FlatMemory, PagedMemory, write_bytes};
 use rvm_message::{Command, HostReply};
 use rvm_precopy::Policy;
+use rvm_recorder::{EventLog, NoLog};
 use rvm_refusal::LinkFault;
 use std::alloc::Global;
 use std::marker::Brand;

@@ -1,10 +1,10 @@
 //! The journal of a host, byte by byte.
 
 use rvm_board::BoardEvent;
-use rvm_cell::EventLog;
 use rvm_frame::Frame;
 use rvm_journal::{Header, JournalWriter, is_whole};
 use rvm_message::Command;
+use rvm_recorder::EventLog;
 use rvm_refusal::LinkFault;
 use std::alloc::Global;
 use std::test::Fail;

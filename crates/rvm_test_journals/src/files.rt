@@ -8,13 +8,13 @@ use rvm_board::{Board, BoardEvent, Debugged};
 use rvm_frame::{Addressed, Frame};
 use rvm_hart::RAM_BASE;
 use rvm_host::Host;
-use rvm_host_command::journal_audit::{AuditText, audit_journals};
-use rvm_host_command::journal_file::JournalFile;
 use rvm_journal::{Header, Image};
 use rvm_mem::write_bytes;
 use rvm_message::{Command, HostEvent};
 use rvm_paged::PagedRam;
 use rvm_recorder::Recorded;
+use rvm_replay::journal_audit::{AuditText, audit_journals};
+use rvm_replay::journal_file::JournalFile;
 use std::alloc::Global;
 use std::io::BufWriter;
 

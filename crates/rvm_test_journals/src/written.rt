@@ -1,11 +1,10 @@
 //! Writes the journal of a recorded host as its process would have done.
 
 use rvm_board::BoardEvent;
-use rvm_cell::EventLog;
 use rvm_journal::{Header, JournalWriter};
 use rvm_message::{Command, Exchange, ExchangeRef, HostEvent};
 use rvm_paged::PagedRam;
-use rvm_recorder::{Item, ItemRef, Journal};
+use rvm_recorder::{EventLog, Item, ItemRef, Journal};
 use std::alloc::Global;
 use std::io::Write;
 

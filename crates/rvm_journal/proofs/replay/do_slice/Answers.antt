@@ -1,5 +1,5 @@
 use Rattle.std.proofs.Common.{◌-◌, IfOk, sym, subst}
-use Rattle.rvm_cell.specs.Logs.{steps_from}
+use Rattle.rvm_recorder.specs.Logs.{steps_from}
 use Rattle.rvm_journal.specs.Replaying.{Records}
 use Rattle.rvm_journal.proofs.Replayed.{of_slice}
 use Rattle.rvm_journal.proofs.replay.do_slice.Goals as goal

@@ -1,6 +1,6 @@
 use Rattle.std.proofs.Common.{ℕ, List, Option}
 use Rattle.std.specs.Io.Buffered.{writer_contents}
-use Rattle.rvm_host_command.specs.Replays.{HasSessionStatus}
+use Rattle.rvm_replay.specs.Replays.{HasSessionStatus}
 use Rattle.rvm_program.specs.Ended.{Written, written}
 use Rattle.rvm_program.proofs.ReplayEnds.{answer_end, answer_untold, buffer_untold}
 use Rattle.rvm_program.proofs.journals.answer_replay.Goals as goal

@@ -1,6 +1,6 @@
 use Rattle.std.proofs.Common.{subst}
 use Rattle.std.specs.Prelude.{ℕ}
-use Rattle.rvm_cell.specs.Logs.{KeepsOn, steps_from}
+use Rattle.rvm_recorder.specs.Logs.{KeepsOn, steps_from}
 use Rattle.rvm_cell.proofs.Events.{last_given}
 use Rattle.rvm_cell.proofs.Logs.{turns_kept}
 use Rattle.rvm_cell.proofs.reached.Reached.retire.Goals as goal

@@ -1,0 +1,97 @@
+-- What a replay reports, where it is not known how much of that was written.
+use Rattle.std.proofs.Common.{◌≡◌, ℕ, zero, suc, List, [], ◌++◌, Option, Some, None, codes, refl, subst, inl, inr}
+use Rattle.std.specs.Io.KnownBytes.{Appends}
+use Rattle.std.specs.Prelude.{Result, Ok, Err, OnErr}
+use Rattle.rvm_board.specs.Guest.{Guest}
+use Rattle.rvm_command.specs.Command.{refused_text}
+use Rattle.rvm_command.specs.Ends.{IsExtendedEndOf}
+use Rattle.rvm_command.specs.Refusals.{refused, refused_of_script}
+use Rattle.rvm_debug.specs.declared.script.ScriptError.{ScriptError}
+use Rattle.rvm_journal.specs.Headers.{header_at}
+use Rattle.rvm_recorder.specs.History.{Recording, count_of}
+use Rattle.rvm_refusal.specs.declared.refusal.Refusal.TheVariants.{LinkFault}
+use Rattle.rvm_replay.specs.Consoles.{console_of}
+use Rattle.rvm_replay.specs.FileFaults.{IsFileFault, fault_line}
+use Rattle.rvm_replay.specs.Replays.{HasAnswerStatus, HasReplayStatus, HasSessionStatus, HasShownStatus, IsReplay, IsSessionRefused, IsUntold, guest_after, no_guest_line, replayed_line}
+use Rattle.rvm_replay.specs.declared.journal_file.FileFault.{FileFault}
+
+-- whatever is returned, a failure is told so
+pub on_error : {A E : Type 0} (r : Result A E) (P : Type 0) → P → OnErr r P
+on_error (Ok a) P told = tt
+on_error (Err e) P told = told
+
+-- what a guest sent was shown, or not
+module _ (r : Recording) (out out' : Option (List ℕ)) where
+  pub shown_untold : Appends out out' (console_of r.journal.entries)
+      → IsUntold (λ status before after. HasShownStatus status r out out' before after)
+  shown_untold shown = (0, replayed_line (count_of r), record { shown = shown; counted = refl })
+
+  pub unwritten_untold : IsUntold (λ status before after. HasShownStatus status r out out' before after)
+  unwritten_untold = (1, refused_text (refused LinkFault) ++ codes "\n", refl)
+
+-- a session was refused for a guest
+pub refused_untold : (guest : Guest) (session out out' : Option (List ℕ)) (why : ScriptError)
+    → IsExtendedEndOf session guest (Err why) out out'
+    → IsUntold (λ status before after. (status ≡ 1) × IsSessionRefused guest session out out' before after)
+refused_untold guest session out out' why ended =
+    (1, refused_text (refused_of_script why) ++ codes "\n", (refl, record { why = why; ended = ended; reported = refl }))
+
+-- a session with the guest that is at a host, or none is there
+module _ (name : List ℕ) (n : ℕ) (session out out' : Option (List ℕ)) where
+  pub answers_untold : {F : Type 0} (r : Result ℕ F) (here : Option Guest) (guest : Guest) → Some guest ≡ here
+      → OnErr r (IsUntold (λ status before after. (status ≡ 1) × IsSessionRefused guest session out out' before after))
+      → OnErr r (IsUntold (λ status before after. HasAnswerStatus status name here n session out out' before after))
+  answers_untold (Ok s) here guest is untold = tt
+  answers_untold (Err e) here guest is (status, report, (one, refused_is)) =
+      (1, report, subst (λ g. HasAnswerStatus 1 name g n session out out' (Some []) (Some report)) is refused_is)
+
+  pub nobody_untold : (here : Option Guest) → None ≡ here → out' ≡ out
+      → IsUntold (λ status before after. HasAnswerStatus status name here n session out out' before after)
+  nobody_untold here is same = (
+    1,
+    no_guest_line name n,
+    subst (λ g. HasAnswerStatus 1 name g n session out out' (Some []) (Some (no_guest_line name n))) is (same, refl),
+  )
+
+module _ (name : List ℕ) (most : Option ℕ) (journal image : List ℕ) (out out' : Option (List ℕ)) where
+  -- a journal was refused
+  module _ (why : FileFault) (fault : IsFileFault why most (header_at journal) journal image) (same : out' ≡ out) where
+    pub replay_untold : IsUntold (λ status before after. HasReplayStatus status name most journal image out out' before after)
+    replay_untold = (1, fault_line name why, inl (record { why = why; fault = fault; reported = refl }, same))
+
+    pub session_untold : (session : Option (List ℕ))
+        → IsUntold (λ status before after. HasSessionStatus status name most journal image session out out' before after)
+    session_untold session = (1, fault_line name why, inl (record { why = why; fault = fault; reported = refl }, same))
+
+  -- the host of the journal did again what is wanted
+  module _ (recording : Recording) (replay : IsReplay most journal image recording) where
+    shown_again : (status : ℕ) (before after : Option (List ℕ)) → HasShownStatus status recording out out' before after
+        → HasReplayStatus status name most journal image out out' before after
+    shown_again zero before after shown = record { recording = recording; replay = replay; shown = shown }
+    shown_again (suc zero) before after told =
+        inr (record { recording = recording; replay = replay; reported = told })
+    shown_again (suc (suc n)) before after none = absurd none
+
+    pub replays_untold : {F : Type 0} (r : Result ℕ F)
+        → OnErr r (IsUntold (λ status before after. HasShownStatus status recording out out' before after))
+        → OnErr r (IsUntold (λ status before after. HasReplayStatus status name most journal image out out' before after))
+    replays_untold (Ok s) untold = tt
+    replays_untold (Err e) (status, report, ended) = (status, report, shown_again status (Some []) (Some report) ended)
+
+    answered_again : (session : Option (List ℕ)) (status : ℕ) (before after : Option (List ℕ))
+        → HasAnswerStatus status name (guest_after recording) (count_of recording) session out out' before after
+        → HasSessionStatus status name most journal image session out out' before after
+    answered_again session zero before after (answered, same) =
+        (record { recording = recording; replay = replay; answered = answered }, same)
+    answered_again session (suc zero) before after unanswered =
+        inr (record { recording = recording; replay = replay; unanswered = unanswered })
+    answered_again session (suc (suc n)) before after none = absurd none
+
+    pub sessions_untold : {F : Type 0} (r : Result ℕ F) (session : Option (List ℕ))
+        → OnErr r (IsUntold (λ status before after.
+        HasAnswerStatus status name (guest_after recording) (count_of recording) session out out' before after))
+        → OnErr r (IsUntold (λ status before after.
+        HasSessionStatus status name most journal image session out out' before after))
+    sessions_untold (Ok s) session untold = tt
+    sessions_untold (Err e) session (status, report, ended) =
+        (status, report, answered_again session status (Some []) (Some report) ended)

@@ -1,0 +1,62 @@
+-- What is wrong with a journal in a file, and what is reported of it.
+use Rattle.std.specs.Prelude.{◌≡◌, ◌≢◌, ℕ, List, ◌++◌, Option, Some, None, IsSomeAnd, codes}
+use Rattle.std.specs.Char.{encode_utf8}
+use Rattle.sha2.specs.Sha256.{sha256}
+use Rattle.rvm_command.specs.declared.refused.Refused.{Refused}
+use Rattle.rvm_command.specs.Command.{image_of, refused_text}
+use Rattle.rvm_command.specs.Ends.{IsLoadRefusal}
+use Rattle.rvm_debug.specs.Words.{lines}
+use Rattle.rvm_journal.specs.declared.header.Header.{Header}
+use Rattle.rvm_journal.specs.declared.header.Image.{Image}
+use Rattle.rvm_journal.specs.Replaying as journal
+use Rattle.rvm_journal.specs.Replaying.{IsJournalFault}
+use Rattle.rvm_replay.specs.declared.journal_file.FileFault.{FileFault}
+use Rattle.rvm_replay.specs.declared.journal_file.FileFault.TheVariants.{NoHeader, SameHost, SecondGuest, OtherHosts, OtherWorld, OtherImage, Image as BadImage, Journal as BadJournal}
+
+-- a header names a guest, and this is not the file of its image
+abbrev pub IsOtherImage : (guest : Option Image) → (file : List ℕ) → Type 0
+IsOtherImage guest file = IsSomeAnd guest (λ i. sha256 file ≢ i.digest)
+
+-- a header names a guest, this is the file of its image, and the guest cannot be loaded from it
+abbrev pub IsBadImage : (why : Refused) → (guest : Option Image) → (file : List ℕ) → Type 0
+IsBadImage why guest file =
+    IsSomeAnd guest (λ i. (sha256 file ≡ i.digest) × IsLoadRefusal (image_of i.raw file) i.pages why)
+
+-- this is wrong with the file of the image of a guest that a header names
+abbrev pub IsGuestFault : FileFault → (guest : Option Image) → (file : List ℕ) → Type 0
+IsGuestFault NoHeader guest file = ⊥
+IsGuestFault (SameHost letter) guest file = ⊥
+IsGuestFault SecondGuest guest file = ⊥
+IsGuestFault OtherHosts guest file = ⊥
+IsGuestFault OtherWorld guest file = ⊥
+IsGuestFault OtherImage guest file = IsOtherImage guest file
+IsGuestFault (BadImage why) guest file = IsBadImage why guest file
+IsGuestFault (BadJournal why) guest file = ⊥
+
+-- this is wrong with a journal of these bytes, which has this header, or none, and with the file of its image. What is
+-- wrong with it beside other journals is wrong with none alone
+abbrev pub IsFileFault : FileFault → (most : Option ℕ) → (header : Option Header) → (bytes image : List ℕ) → Type 0
+IsFileFault NoHeader most header bytes image = header ≡ None
+IsFileFault (SameHost letter) most header bytes image = ⊥
+IsFileFault SecondGuest most header bytes image = ⊥
+IsFileFault OtherHosts most header bytes image = ⊥
+IsFileFault OtherWorld most header bytes image = ⊥
+IsFileFault OtherImage most header bytes image = IsSomeAnd header (λ h. IsOtherImage h.guest image)
+IsFileFault (BadImage why) most header bytes image = IsSomeAnd header (λ h. IsBadImage why h.guest image)
+IsFileFault (BadJournal why) most header bytes image =
+    IsSomeAnd header (λ h. IsJournalFault why most h.hosts h.host (lines bytes) 4294967295)
+
+-- what is reported of it
+abbrev pub fault_text : FileFault → List ℕ
+fault_text NoHeader = codes "line 1: no header of a journal"
+fault_text (SameHost letter) = codes "a second journal of host " ++ encode_utf8 letter
+fault_text SecondGuest = codes "a second guest"
+fault_text OtherHosts = codes "of another number of hosts"
+fault_text OtherWorld = codes "of another world"
+fault_text OtherImage = codes "the image is another one"
+fault_text (BadImage why) = refused_text why
+fault_text (BadJournal why) = journal.fault_text why
+
+-- the line that reports it
+abbrev pub fault_line : (name : List ℕ) → FileFault → List ℕ
+fault_line name why = name ++ codes ": " ++ fault_text why ++ codes "\n"

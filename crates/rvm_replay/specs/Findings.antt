@@ -1,0 +1,137 @@
+-- What an audit of journals in files found, and the status that says so.
+use Rattle.std.specs.Prelude.{◌≡◌, ◌⊎◌, ⊤, ℕ, zero, suc, ◌&&◌, not, Bool, false, List, [], ◌∷◌, ◌++◌, codes, length, map, Option, None, Some, slice_get}
+use Rattle.std.specs.Io.KnownBytes.{Appends}
+use Rattle.std.specs.List.{list_any}
+use Rattle.rvm_audit.specs.Cuts.{AreContradicted, AreExplained}
+use Rattle.rvm_audit.specs.Orders.{IsDeadEnd, IsOrder, cut}
+use Rattle.rvm_audit.specs.Parts.{taken}
+use Rattle.rvm_audit.specs.Rule.{IsMerge}
+use Rattle.rvm_command.specs.Refusals.{IsTold, refused}
+use Rattle.rvm_core.specs.declared.event.Event.{Event}
+use Rattle.rvm_journal.specs.Headers.{header_at}
+use Rattle.rvm_journal.specs.Replaying.{is_whole}
+use Rattle.rvm_recorder.specs.History.{History, Recording}
+use Rattle.rvm_refusal.specs.declared.refusal.Refusal.TheVariants.{LinkFault, OutOfMemory}
+use Rattle.rvm_replay.specs.Audited.{AreAudited, AreReplayed, IsOrdered, is_wanted, journals_in}
+use Rattle.rvm_replay.specs.FileFaults.{fault_line}
+use Rattle.rvm_replay.specs.Unaudited.{IsJournalsFault}
+use Rattle.rvm_replay.specs.declared.journal_audit.AuditText.{AuditText}
+use Rattle.rvm_replay.specs.declared.journal_audit.Finding.{Finding}
+use Rattle.rvm_replay.specs.declared.journal_audit.Finding.TheVariants.{Contradicted, InOrder, Undecided}
+use Rattle.rvm_replay.specs.declared.journal_file.JournalFile.{JournalFile}
+use Rattle.rvm_replay.specs.declared.journal_file.JournalsFault.{JournalsFault}
+use Rattle.rvm_replay.specs.declared.journal_file.JournalsFault.TheVariants as journals
+use Rattle.rvm_replay.specs.declared.journal_headers.Wanted.TheVariants.{OfHost}
+
+-- whether a journal is that of a host, and was cut off
+abbrev pub is_cut_of : (host : ℕ) → JournalFile → Bool
+is_cut_of x file = is_wanted (OfHost x) (header_at file.bytes.items) && not (is_whole file.bytes.items)
+
+-- whether one of these journals is that of a host, and was cut off
+abbrev pub is_cut : List JournalFile → (host : ℕ) → Bool
+is_cut files x = list_any (is_cut_of x) files
+
+-- for each of this many hosts, whether its journal was cut off
+abbrev pub cuts_of : List JournalFile → (hosts : ℕ) → List Bool
+cuts_of files zero = []
+cuts_of files (suc x) = cuts_of files x ++ is_cut files x ∷ []
+
+-- what these hosts recorded
+abbrev pub histories_in : List Recording → List History
+histories_in all = map (λ r. r.journal) all
+
+-- the journals of these hosts have an order up to these places, and none of all
+pub record EndsAt (all : List Recording) (places : ℕ → ℕ) : Type 0 where
+  pub dead : IsDeadEnd (journals_in all) places
+  pub events : List Event
+  pub order : IsOrder (cut places (journals_in all)) events
+
+-- the journals of these hosts contradict one another, whatever was cut off
+pub record AreRefuted (files : List JournalFile) (all : List Recording) : Type 0 where
+  pub places : ℕ → ℕ
+  pub ends : EndsAt all places
+  pub contradicted : AreContradicted (histories_in all) (cuts_of files (length all))
+
+-- the journals of these hosts have no order, and what was cut off may explain that
+pub record AreUndecided (files : List JournalFile) (all : List Recording) : Type 0 where
+  pub places : ℕ → ℕ
+  pub ends : EndsAt all places
+  pub explained : AreExplained (histories_in all) (cuts_of files (length all))
+
+-- what was found of the journals of these hosts
+abbrev pub IsFinding : List JournalFile → List Recording → Finding → Type 0
+IsFinding files all (InOrder order) = IsMerge (journals_in all) order
+IsFinding files all (Contradicted places) =
+    EndsAt all (taken places.items) × AreContradicted (histories_in all) (cuts_of files (length all))
+IsFinding files all (Undecided places) =
+    EndsAt all (taken places.items) × AreExplained (histories_in all) (cuts_of files (length all))
+
+-- why what was found has the status 1, and what was written and reported then: the journals contradict one another, memory
+-- ran out, or a write failed
+abbrev pub IsRefusedFinding : List JournalFile → List Recording → (out out' errors errors' : Option (List ℕ)) → Type 0
+IsRefusedFinding files all out out' errors errors' =
+    (AreRefuted files all × (out' ≡ out))
+    ⊎ ((IsTold (refused OutOfMemory) errors errors' × (out' ≡ out)) ⊎ IsTold (refused LinkFault) errors errors')
+
+-- what was found of the journals of these hosts, by the status, and what was written and reported
+abbrev pub HasFindingStatus : (status : ℕ) → List JournalFile → List Recording → AuditText
+    → (out out' errors errors' : Option (List ℕ)) → Type 0
+HasFindingStatus zero files all text out out' errors errors' = IsOrdered text all out out' × (errors' ≡ errors)
+HasFindingStatus (suc zero) files all text out out' errors errors' = IsRefusedFinding files all out out' errors errors'
+HasFindingStatus (suc (suc (suc zero))) files all text out out' errors errors' =
+    AreUndecided files all × (out' ≡ out)
+HasFindingStatus status files all text out out' errors errors' = ⊥
+
+-- a report of what was found of the journals of these hosts is not complete, since a write to the errors failed: errors
+-- that held nothing would hold it
+abbrev pub IsUntoldFinding : List JournalFile → List Recording → AuditText → (out out' : Option (List ℕ)) → Type 0
+IsUntoldFinding files all text out out' =
+    (status : ℕ) × (report : List ℕ) × HasFindingStatus status files all text out out' (Some []) (Some report)
+
+-- the hosts of a world did what their journals tell, and what was found of that has the status 1
+pub record AreNotInOrder (files : List JournalFile) (image : List ℕ) (out out' errors errors' : Option (List ℕ)) : Type 0 where
+  pub all : List Recording
+  pub replayed : AreReplayed files image all
+  pub found : IsRefusedFinding files all out out' errors errors'
+
+-- the name under which a journal is reported
+abbrev pub name_of : Option JournalFile → List ℕ
+name_of None = codes "journal"
+name_of (Some file) = file.name.now
+
+-- why journals are not audited was reported
+abbrev pub IsFaultTold : List JournalFile → JournalsFault → (errors errors' : Option (List ℕ)) → Type 0
+IsFaultTold files journals.OutOfMemory errors errors' = IsTold (refused OutOfMemory) errors errors'
+IsFaultTold files journals.NoGuest errors errors' =
+    Appends errors errors' (codes "no journal begins with a guest" ++ codes "\n")
+IsFaultTold files (journals.File i fault) errors errors' =
+    Appends errors errors' (fault_line (name_of (slice_get files i)) fault)
+
+-- the journals are not audited for this reason, which was reported
+pub record AreNotAudited (files : List JournalFile) (image : List ℕ) (out out' errors errors' : Option (List ℕ)) : Type 0 where
+  pub fault : JournalsFault
+  pub reason : IsJournalsFault files image fault
+  pub told : IsFaultTold files fault errors errors'
+  pub same : out' ≡ out
+
+-- the hosts of a world did what their journals tell; that has no order, and what was cut off may explain it
+pub record AreOpen (files : List JournalFile) (image : List ℕ) (out out' : Option (List ℕ)) : Type 0 where
+  pub all : List Recording
+  pub replayed : AreReplayed files image all
+  pub undecided : AreUndecided files all
+  pub same : out' ≡ out
+
+-- what an audit of journals found, by its status, and what was written and reported
+abbrev pub HasAuditStatus : (status : ℕ) → List JournalFile → (image : List ℕ) → AuditText
+    → (out out' errors errors' : Option (List ℕ)) → Type 0
+HasAuditStatus zero files image text out out' errors errors' =
+    AreAudited files image text out out' × (errors' ≡ errors)
+HasAuditStatus (suc zero) files image text out out' errors errors' =
+    AreNotAudited files image out out' errors errors' ⊎ AreNotInOrder files image out out' errors errors'
+HasAuditStatus (suc (suc (suc zero))) files image text out out' errors errors' = AreOpen files image out out'
+HasAuditStatus status files image text out out' errors errors' = ⊥
+
+-- a report of an audit is not complete, since a write to the errors failed: errors that held nothing would hold it
+abbrev pub IsUntoldAudit : List JournalFile → (image : List ℕ) → AuditText → (out out' : Option (List ℕ)) → Type 0
+IsUntoldAudit files image text out out' =
+    (status : ℕ) × (report : List ℕ) × HasAuditStatus status files image text out out' (Some []) (Some report)

@@ -1,0 +1,66 @@
+//! Journals in files, and what may be wrong with them.
+
+use rvm_command::refused::Refused;
+use rvm_journal::JournalFault;
+use std::fmt;
+
+/// A journal in a file.
+#[derive(Debug, Drop)]
+pub struct JournalFile<'a> {
+    /// The name of the file.
+    pub name: &'a str,
+    /// All bytes of the file.
+    pub bytes: Vec<u8>,
+}
+
+/// What is wrong with a journal.
+#[derive(Clone, Copy, Debug)]
+pub enum FileFault {
+    /// The first line is no header, or does not show its digest.
+    NoHeader,
+    /// A journal before it is of the same host.
+    SameHost(char),
+    /// The host began with a guest, as that of a journal before it did.
+    SecondGuest,
+    /// The world has another number of hosts than that of the journal whose host began with the guest.
+    OtherHosts,
+    /// The header tells another number of the world than that of the journal whose host began with the guest.
+    OtherWorld,
+    /// The journal begins with the guest of another image.
+    OtherImage,
+    /// The guest with which the journal begins cannot be loaded from the image.
+    Image(Refused),
+    /// A line tells nothing, or the journal is too long.
+    Journal(JournalFault),
+}
+
+impl fmt::Display for FileFault {
+    ghost use Rattle.std.specs.Prelude.{Some};
+    ghost use Rattle.rvm_replay.specs.FileFaults.{fault_text};
+
+    ghost output = { λ fault. Some (fault_text fault) };
+
+    fn fmt<W: fmt::Write>(&self, f: &mut fmt::Formatter<W>) -> fmt::Result {
+        match *self {
+            FileFault::NoHeader => write!(f, "line 1: no header of a journal"),
+            FileFault::SameHost(letter) => write!(f, "a second journal of host {letter}"),
+            FileFault::SecondGuest => write!(f, "a second guest"),
+            FileFault::OtherHosts => write!(f, "of another number of hosts"),
+            FileFault::OtherWorld => write!(f, "of another world"),
+            FileFault::OtherImage => write!(f, "the image is another one"),
+            FileFault::Image(refused) => write!(f, "{refused}"),
+            FileFault::Journal(fault) => write!(f, "{fault}"),
+        }
+    }
+}
+
+/// Why journals are not audited.
+#[derive(Clone, Copy)]
+pub(crate) enum JournalsFault {
+    /// Memory ran out.
+    OutOfMemory,
+    /// None of them is of a host that began with a guest.
+    NoGuest,
+    /// The journal with this index, from 0, is not as it must be.
+    File(usize, FileFault),
+}

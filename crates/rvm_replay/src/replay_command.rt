@@ -1,0 +1,81 @@
+//! `rvmove replay`: the host of a journal does again what the journal tells.
+
+ghost use Rattle.std.specs.Prelude.{◌≡◌, ◌⊎◌, IfOk, OnErr};
+ghost use Rattle.rvm_command.specs.Refusals.{IsTold, refused};
+ghost use Rattle.rvm_refusal.specs.declared.refusal.Refusal.TheVariants as refusal;
+ghost use Rattle.rvm_replay.specs.Replays.{HasReplayStatus, HasShownStatus, IsNotShown, IsShown, IsShownAgain, IsUntold};
+
+use crate::console_of_journal::write_console;
+use crate::journal_hosts::host_of_journal;
+use crate::journal_report::report_fault;
+use rvm_command::refused::{Refused, tell};
+use rvm_mem::PagedMemory;
+use rvm_recorder::Recorded;
+use rvm_refusal::LinkFault;
+use std::alloc::Global;
+use std::io::Write;
+
+/// Makes the host of a journal anew, has it do again what the journal tells, and writes to `output` what the guest sent
+/// while it was there. `name` is the journal's file; `image` is the file of the image with which the host began, and is
+/// not used if it began without a guest. With `until`, only this many events are done, from the first on, and lines
+/// after the one that tells the last of them are ignored.
+///
+/// Returns the status: 0 if all of it was done, and then `errors` gets `replayed N events`; 1 if the journal is refused,
+/// for its header, its image or a line that is looked at, or if a write to `output` fails, and then `errors` says why.
+/// The error `LinkFault` says that a write to `errors` failed.
+pub fn replay_command<M: PagedMemory + Drop, O: Write, E: Write>(
+    alloc: Global,
+    name: &str,
+    journal: &[u8],
+    image: &[u8],
+    until: Option<u32>,
+    output: &mut O,
+    errors: &mut E,
+) -> Result<u8, LinkFault>
+    ensures status { IfOk result (λ status. (status ≡ 0) ⊎ (status ≡ 1)) }
+    ensures shown { IfOk result (λ status. status ≡ 0 → IsShownAgain until journal.now image.now
+        (O.contents output.old) (O.contents output.new) (E.contents errors.old) (E.contents errors.new)) }
+    ensures refused { IfOk result (λ status. status ≡ 1 → IsNotShown name.now until journal.now image.now
+        (O.contents output.old) (O.contents output.new) (E.contents errors.old) (E.contents errors.new)) }
+    ensures untold { OnErr result (IsUntold (λ status before after. HasReplayStatus status name.now until journal.now
+        image.now (O.contents output.old) (O.contents output.new) before after)) }
+{
+    match host_of_journal::<M>(alloc, journal, image, until) {
+        Ok(recorded) => {
+            let status = show(&recorded, output, errors);
+            drop(recorded);
+            status
+        }
+        Err(fault) => {
+            report_fault(name, fault, errors)?;
+            Ok(1)
+        }
+    }
+}
+
+/// Writes what a host showed, and reports how many events it did, or that a write failed. Returns the status.
+fn show<M: PagedMemory + Drop, O: Write, E: Write>(
+    recorded: &Recorded<M>,
+    output: &mut O,
+    errors: &mut E,
+) -> Result<u8, LinkFault>
+    ensures status { IfOk result (λ status. (status ≡ 0) ⊎ (status ≡ 1)) }
+    ensures shown { IfOk result (λ status. status ≡ 0 → IsShown recorded.now
+        (O.contents output.old) (O.contents output.new) (E.contents errors.old) (E.contents errors.new)) }
+    ensures failed { IfOk result (λ status. status ≡ 1
+        → IsTold (refused refusal.LinkFault) (E.contents errors.old) (E.contents errors.new)) }
+    ensures untold { OnErr result (IsUntold (λ status before after. HasShownStatus status recorded.now
+        (O.contents output.old) (O.contents output.new) before after)) }
+{
+    match write_console(output, recorded.journal().items()) {
+        Ok(()) => {
+            let count = recorded.count();
+            writeln!(errors, "replayed {count} events")?;
+            Ok(0)
+        }
+        Err(_) => {
+            let _status = tell(Refused::from(LinkFault), errors)?;
+            Ok(1)
+        }
+    }
+}

@@ -1,0 +1,130 @@
+//! `rvmove replay` with a script: a session of the debugger with the guest that is at the host of a journal after what
+//! the host did.
+
+ghost use Rattle.std.specs.Prelude.{◌≡◌, ◌⊎◌, IfOk, OnErr, OnOk, Some};
+ghost use Rattle.std.specs.Io.Buffered.{writer_contents};
+ghost use Rattle.std.specs.Io.KnownBytes.{Appends};
+ghost use Rattle.rvm_command.specs.Flushed.{is_flushed};
+ghost use Rattle.rvm_recorder.specs.History.{count_of};
+ghost use Rattle.rvm_replay.specs.Replays.{HasAnswerStatus, HasAnswered, HasSessionStatus, IsAnswered, IsNoSession, IsSessionRefused, IsUnanswered, IsUntold, guest_after, no_guest_line};
+
+use crate::journal_hosts::host_of_journal;
+use crate::journal_report::report_fault;
+use rvm_board::Debugged;
+use rvm_command::debug_command::answer;
+use rvm_command::refused::{Refused, tell};
+use rvm_mem::PagedMemory;
+use rvm_recorder::Recorded;
+use rvm_refusal::LinkFault;
+use std::alloc::Global;
+use std::io::{BufWriter, Read, Write};
+
+/// Makes the host of a journal anew, has it do again what the journal tells, or only the first `until` events, and hands
+/// the guest that is then at the host to the debugger: does what each line of the extended session in `reader` asks for,
+/// and writes the answers to `output`. What the guest sent before is not written. `name` is the journal's file; `image`
+/// is the file of the image with which the host began, and is not used if it began without a guest.
+///
+/// Returns the status: 0 if all lines were answered, and then `output` is flushed, and `errors` gets nothing; 1 if the
+/// journal is refused, if no guest is at the host, if the session is refused, or if a read or a write to `output` fails,
+/// and then `errors` says why. The error `LinkFault` says that a write to `errors` failed.
+pub fn replay_session<M: PagedMemory + Drop, R: Read, O: Write + Drop, E: Write>(
+    alloc: Global,
+    name: &str,
+    journal: &[u8],
+    image: &[u8],
+    until: Option<u32>,
+    reader: &mut R,
+    output: &mut BufWriter<O>,
+    errors: &mut E,
+) -> Result<u8, LinkFault>
+    ensures status { IfOk result (λ status. (status ≡ 0) ⊎ (status ≡ 1)) }
+    ensures answered { IfOk result (λ status. status ≡ 0 → HasAnswered until journal.now image.now (R.remaining reader.old)
+        (writer_contents O.contents output.old) (writer_contents O.contents output.new)) }
+    ensures out { IfOk result (λ status. status ≡ 0 → is_flushed output.new) }
+    ensures silent { IfOk result (λ status. status ≡ 0 → E.contents errors.new ≡ E.contents errors.old) }
+    ensures refused { IfOk result (λ status. status ≡ 1 → IsNoSession name.now until journal.now image.now
+        (R.remaining reader.old) (writer_contents O.contents output.old) (writer_contents O.contents output.new)
+        (E.contents errors.old) (E.contents errors.new)) }
+    ensures untold { OnErr result (IsUntold (λ status before after. HasSessionStatus status name.now until journal.now
+        image.now (R.remaining reader.old) (writer_contents O.contents output.old)
+        (writer_contents O.contents output.new) before after)) }
+{
+    match host_of_journal::<M>(alloc, journal, image, until) {
+        Ok(recorded) => session_at(alloc, name, recorded, reader, output, errors),
+        Err(fault) => {
+            report_fault(name, fault, errors)?;
+            Ok(1)
+        }
+    }
+}
+
+/// Answers a session for the guest that is at a host, or reports that none is there. Returns the status.
+fn session_at<M: PagedMemory + Drop, R: Read, O: Write + Drop, E: Write>(
+    alloc: Global,
+    name: &str,
+    recorded: Recorded<M>,
+    reader: &mut R,
+    output: &mut BufWriter<O>,
+    errors: &mut E,
+) -> Result<u8, LinkFault>
+    ensures status { IfOk result (λ status. (status ≡ 0) ⊎ (status ≡ 1)) }
+    ensures answered { IfOk result (λ status. status ≡ 0 → IsAnswered (guest_after recorded) (R.remaining reader.old)
+        (writer_contents O.contents output.old) (writer_contents O.contents output.new)) }
+    ensures out { IfOk result (λ status. status ≡ 0 → is_flushed output.new) }
+    ensures silent { IfOk result (λ status. status ≡ 0 → E.contents errors.new ≡ E.contents errors.old) }
+    ensures refused { IfOk result (λ status. status ≡ 1 → IsUnanswered name.now (guest_after recorded) (count_of recorded)
+        (R.remaining reader.old) (writer_contents O.contents output.old) (writer_contents O.contents output.new)
+        (E.contents errors.old) (E.contents errors.new)) }
+    ensures untold { OnErr result (IsUntold (λ status before after. HasAnswerStatus status name.now (guest_after recorded)
+        (count_of recorded) (R.remaining reader.old) (writer_contents O.contents output.old)
+        (writer_contents O.contents output.new) before after)) }
+{
+    let count = recorded.count();
+    match recorded.into_guest() {
+        Some(guest) => session_of(alloc, guest, reader, output, errors),
+        None => {
+            report_no_guest(name, count, errors)?;
+            Ok(1)
+        }
+    }
+}
+
+/// Reports that no guest is at a host after this many events.
+fn report_no_guest<E: Write>(name: &str, count: u32, errors: &mut E) -> Result<(), LinkFault>
+    ensures { OnOk result (Appends (E.contents errors.old) (E.contents errors.new) (no_guest_line name.now count)) }
+{
+    writeln!(errors, "{name}: no guest is here after {count} events")?;
+    Ok(())
+}
+
+/// Answers a session for a guest, or reports why it is refused. Returns the status.
+fn session_of<M: PagedMemory + Drop, R: Read, O: Write + Drop, E: Write>(
+    alloc: Global,
+    guest: Debugged<M>,
+    reader: &mut R,
+    output: &mut BufWriter<O>,
+    errors: &mut E,
+) -> Result<u8, LinkFault>
+    ensures status { IfOk result (λ status. (status ≡ 0) ⊎ (status ≡ 1)) }
+    ensures answered { IfOk result (λ status. status ≡ 0 → IsAnswered (Some guest.guest) (R.remaining reader.old)
+        (writer_contents O.contents output.old) (writer_contents O.contents output.new)) }
+    ensures out { IfOk result (λ status. status ≡ 0 → is_flushed output.new) }
+    ensures silent { IfOk result (λ status. status ≡ 0 → E.contents errors.new ≡ E.contents errors.old) }
+    ensures refused { IfOk result (λ status. status ≡ 1 → IsSessionRefused guest.guest (R.remaining reader.old)
+        (writer_contents O.contents output.old) (writer_contents O.contents output.new)
+        (E.contents errors.old) (E.contents errors.new)) }
+    ensures untold { OnErr result (IsUntold (λ status before after. (status ≡ 1) × IsSessionRefused guest.guest
+        (R.remaining reader.old) (writer_contents O.contents output.old) (writer_contents O.contents output.new)
+        before after)) }
+{
+    let mut guest = guest;
+    let answered = answer(alloc, &mut guest, true, reader, output);
+    drop(guest);
+    match answered {
+        Ok(()) => Ok(0),
+        Err(why) => {
+            let _status = tell(Refused::from(why), errors)?;
+            Ok(1)
+        }
+    }
+}
