@@ -19,6 +19,7 @@ pub mod Command
 pub mod Assembled
 pub mod Refusals
 pub mod Ends
+pub mod Seeds
 pub mod Flushed
 pub mod FirstWorld
 pub mod ScriptRefusals

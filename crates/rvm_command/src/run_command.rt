@@ -132,7 +132,7 @@ fn run_status(asked: StatusOf, ended: Ended) -> u8
 
 /// The verdict on a run: 0 if the guest halted with 0, 3 if with another status, 4 if all steps were spent, 5 if it
 /// ended at a fault.
-fn verdict(ended: Ended) -> u8
+pub(crate) fn verdict(ended: Ended) -> u8
     ensures { result ≡ run_status tells.Verdict ended }
 {
     match ended {

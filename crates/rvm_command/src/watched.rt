@@ -19,12 +19,13 @@ use crate::order::hart_of;
 use crate::output_buffer::OutputBuffer;
 use crate::run::{Ended, WRITE_EVERY, drain, feed, run};
 use crate::trace::{look, write_step};
-use rvm_arguments::{RunArguments, TraceArguments};
+use rvm_arguments::{OrdersArguments, RunArguments, TraceArguments};
 use rvm_board::{BoardReply, DRAIN_EVERY, Debugged};
 use rvm_hart::Stepped;
 use rvm_mem::Memory;
 use rvm_refusal::LinkFault;
-use std::io::Write;
+use std::alloc::Global;
+use std::io::{self, Write};
 
 /// Runs a guest as the arguments ask for: turn by turn, if its harts are drawn, if it has to stop at a fault, is traced, or
 /// the words that run are counted, which is so if `counts` has numbers. `LinkFault` if a write fails.
@@ -60,6 +61,40 @@ pub(crate) fn run_asked<M: Memory, O: Write, T: Write>(
     } else {
         run(guest, asked.steps, input, output)
     }
+}
+
+/// Runs a guest by a seed, of which nothing but its output is asked. `LinkFault` if a write fails, which is possible only if
+/// there was something to write.
+#[tactic(auto, using(crate::proofs::Covering::nothing_counted, crate::proofs::Seeding::some_output))]
+pub(crate) fn run_seeded<M: Memory, W: Write>(
+    alloc: Global,
+    guest: &mut Debugged<M>,
+    arguments: &OrdersArguments,
+    input: &[u8],
+    seed: u32,
+    writer: &mut W,
+) -> Result<Ended, LinkFault>
+    ensures ended { IfOk result (λ end. end ≡ (run_with (Some seed) arguments.now.stop_at_fault None arguments.now.steps
+        input.now guest.old.guest).ended) }
+    ensures written { OnOk result (Appends (W.contents writer.old) (W.contents writer.new)
+        (run_with (Some seed) arguments.now.stop_at_fault None arguments.now.steps input.now guest.old.guest).written) }
+    ensures some { OnErr result (0 < length (run_with (Some seed) arguments.now.stop_at_fault None arguments.now.steps
+        input.now guest.old.guest).written) }
+{
+    let asked = Asked {
+        steps: arguments.steps,
+        stop_at_fault: arguments.stop_at_fault,
+        traced: None,
+        seed: Some(seed),
+    };
+    run_watched(
+        guest,
+        asked,
+        input,
+        &mut Counts::none(alloc),
+        writer,
+        &mut io::sink(),
+    )
 }
 
 /// The first and the last turn that have a line in a trace, if there is one.

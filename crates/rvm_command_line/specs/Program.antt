@@ -110,9 +110,10 @@ with_turns command =
     with_rule (with_rule (with_guest command) (number (codes "steps") (codes "1000000") 1000000000))
     (option (codes "input"))
 
--- a command that takes the word for the order of its harts
+-- a command that takes the words for the order of its harts
 abbrev pub with_order : App → App
-with_order command = with_rule command (bounded (codes "order") 0 4294967295)
+with_order command =
+    with_rule (with_rule command (bounded (codes "order") 0 4294967295)) (bounded (codes "orders") 1 1000000)
 
 -- the command that runs a guest
 abbrev pub run : App

@@ -34,6 +34,9 @@ ran its instruction. With --profile the file has, after the last turn, a line fo
 --symbols, which is what `nm -n` prints: how many steps the symbol took, and its name; `sort -rn` puts the
 costliest first. --signature, --coverage and --profile exclude one another.
 With --order a generator with the seed S draws the hart of each turn; the same S gives the same run.
+With --orders the guest is run by the seeds 0 to N - 1, each time from its image, up to the first run whose
+verdict is not 0. Standard output has what the guest sent in that run, standard error `order S` and how it
+ended; or standard error has `N orders passed`. --orders excludes --order and what looks at a run.
 
 The status:      halted 0  halted S  steps spent  fault  refused
                  0         0         0            0      1
@@ -579,11 +582,22 @@ fn symbols_option<'a>(alloc: Global) -> Arg<'a>
     option(alloc, "symbols", "FILE", help)
 }
 
-/// Adds to a command the word for the order of its harts.
+/// Adds to a command the words for the order of its harts.
 fn order_command<'a>(command: Made<'a>, alloc: Global) -> Made<'a>
     ensures { (made : App) → IsMade command.entry made → IsMade result (with_order made) }
 {
-    with_arg(command, seed_option(alloc))
+    let command = with_arg(command, seed_option(alloc));
+    with_arg(command, orders_option(alloc))
+}
+
+/// The option `--orders`: the number of seeds by which the guest is run, one after the other.
+fn orders_option<'a>(alloc: Global) -> Arg<'a>
+    ensures rule { rule_of result ≡ bounded (codes "orders") 1 1000000 }
+    ensures local { result.global ≡ false }
+{
+    let help =
+        "Runs the guest by N seeds from 0 on, up to the first run that fails, 1 to 1000000; wants --verdict";
+    bounded(alloc, "orders", "N", 1, 1_000_000, help)
 }
 
 /// The option `--order`: the seed by which the hart of each turn is drawn.
