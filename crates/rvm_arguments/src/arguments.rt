@@ -19,6 +19,7 @@ pub struct CommandLine<'a> {
 #[derive(Debug, Drop)]
 pub enum Arguments<'a> {
     Run(RunArguments<'a>),
+    Orders(OrdersArguments<'a>),
     Asm(AsmArguments<'a>),
     Dis(DisArguments<'a>),
     Debug(DebugArguments<'a>),
@@ -75,7 +76,26 @@ pub struct RunArguments<'a> {
     pub trace: Option<TraceArguments<'a>>,
     /// What is reported of the run after its last turn, if anything.
     pub report: Option<ReportArguments<'a>>,
+    /// The seed by which the hart of each turn is drawn, if one is given. Without one the harts take turns in the order
+    /// of their numbers.
+    pub seed: Option<u32>,
     ghost steps_allowed: { (1 ≤ steps) × (steps ≤ 1000000000) },
+}
+
+/// The arguments of `rvmove run --orders`, whose guest is run by the seeds 0, 1 and so on, each time from its image.
+#[derive(Debug, Drop)]
+pub struct OrdersArguments<'a> {
+    pub guest: GuestArguments<'a>,
+    /// The file whose bytes come to the console of each run, if any.
+    pub input: Option<&'a str>,
+    /// The most turns that a run makes, 1 to 1000000000.
+    pub steps: u32,
+    /// Whether a run ends at the first trap that the guest has no handler for.
+    pub stop_at_fault: bool,
+    /// The number of seeds, 1 to 1000000.
+    pub orders: u32,
+    ghost steps_allowed: { (1 ≤ steps) × (steps ≤ 1000000000) },
+    ghost orders_allowed: { (1 ≤ orders) × (orders ≤ 1000000) },
 }
 
 /// The trace of a run. Turns are counted from 0.

@@ -7,6 +7,7 @@ mod arguments;
 
 pub use arguments::{
     Arguments, AsmArguments, AuditJournalsArguments, CommandLine, DebugArguments, DisArguments,
-    GuestArguments, HostArguments, MoveArguments, ReplayArguments, Report, ReportArguments,
-    RunArguments, ScriptArguments, StatusOf, TellArguments, TraceArguments, WordRange,
+    GuestArguments, HostArguments, MoveArguments, OrdersArguments, ReplayArguments, Report,
+    ReportArguments, RunArguments, ScriptArguments, StatusOf, TellArguments, TraceArguments,
+    WordRange,
 };

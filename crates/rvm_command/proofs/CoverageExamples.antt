@@ -14,7 +14,7 @@ use Rattle.rvm_text.specs.Registers.{abi_names, name_of}
 use Rattle.rvm_word.specs.Word.{signed_value}
 use Rattle.rvm_command.specs.Coverage.{counted_line, counted_lines, counted_listing, coverage, in_ten, runs_at}
 use Rattle.rvm_command.specs.Faults.{first_fault, latest_fault}
-use Rattle.rvm_command.specs.Run.{after, run_from}
+use Rattle.rvm_command.specs.Run.{after, run_by}
 use Rattle.rvm_command.specs.Taken.{Taken, steps_in}
 use Rattle.rvm_command.specs.Watched.{steps_of_run}
 
@@ -28,18 +28,18 @@ guest harts = fresh (at_reset harts 0x80000000 words)
 
 -- hart 0, hart 1, and hart 0 again, which traps
 abbrev three_turns : List Taken
-three_turns = steps_of_run 3 [] (guest 2)
+three_turns = steps_of_run None 3 [] (guest 2)
 
 steps_of_all_harts_count : runs_at three_turns 0x80000000 ≡ 2
-unfolding run_from after steps_in runs_at effect isa.decoded isa.row_of isa.table signed_value
+unfolding run_by after steps_in runs_at effect isa.decoded isa.row_of isa.table signed_value
 steps_of_all_harts_count = refl
 
 a_step_that_traps_counts : runs_at three_turns 0x80000004 ≡ 1
-unfolding run_from after steps_in runs_at effect isa.decoded isa.row_of isa.table signed_value
+unfolding run_by after steps_in runs_at effect isa.decoded isa.row_of isa.table signed_value
 a_step_that_traps_counts = refl
 
 a_step_counts_at_its_pc_alone : runs_at three_turns 0x80000002 ≡ 0
-unfolding run_from after steps_in runs_at effect isa.decoded isa.row_of isa.table signed_value
+unfolding run_by after steps_in runs_at effect isa.decoded isa.row_of isa.table signed_value
 a_step_counts_at_its_pc_alone = refl
 
 an_instruction_that_waits_does_not_count : runs_at
@@ -57,5 +57,5 @@ a_number_has_ten_columns = refl
 -- the listing of a piece that begins with two bytes before its first word
 a_coverage_lists_each_word : coverage (piece 0x7FFFFFFE (1 ∷ 2 ∷ words) ∷ []) three_turns
     ≡ codes "         2  80000000: 00000013  addi zero, zero, 0\n         1  80000004: 00000000  .word 0x00000000\n"
-unfolding run_from after steps_in runs_at counted_lines counted_listing effect isa.decoded isa.row_of isa.table signed_value name_of abi_names digits hex_digits text_of
+unfolding run_by after steps_in runs_at counted_lines counted_listing effect isa.decoded isa.row_of isa.table signed_value name_of abi_names digits hex_digits text_of
 a_coverage_lists_each_word = refl

@@ -18,7 +18,7 @@ use Rattle.rvm_command.specs.declared.run.Ended.TheVariants as ended
 use Rattle.rvm_command.specs.ExtendedScript.{fault_in_turns, find_done, turns_done}
 use Rattle.rvm_command.specs.Faults.{first_fault, latest_fault}
 use Rattle.rvm_command.specs.FaultTexts.{fault_text}
-use Rattle.rvm_command.specs.Run.{after, ran, run_from}
+use Rattle.rvm_command.specs.Run.{after, ran, run_by}
 use Rattle.rvm_command.specs.Taken.{Taken, steps_in}
 use Rattle.rvm_command.specs.Watched.{fault_among, line_at, lines_from, run_with, steps_of_run, trace_of, turns_of}
 
@@ -36,39 +36,39 @@ handled bytes =
 abbrev illegal : Fault
 illegal = record { hart = 0; cause = cause.Exception exception.IllegalInstruction; pc = 0x80000000; value = 0; word = Some 0 }
 
-the_second_trap_shows_the_first : fault_among true [] (steps_of_run 5 [] (guest 1 (replicate 4 0))) ≡ Some (record { steps = 2; fault = illegal })
-unfolding run_from after steps_in first_fault latest_fault isa.decoded isa.row_of isa.table signed_value
+the_second_trap_shows_the_first : fault_among true [] (steps_of_run None 5 [] (guest 1 (replicate 4 0))) ≡ Some (record { steps = 2; fault = illegal })
+unfolding run_by after steps_in first_fault latest_fault isa.decoded isa.row_of isa.table signed_value
 the_second_trap_shows_the_first = refl
 
-one_trap_shows_none : fault_among true [] (steps_of_run 1 [] (guest 1 (replicate 4 0))) ≡ None
-unfolding run_from after steps_in first_fault latest_fault isa.decoded isa.row_of isa.table signed_value
+one_trap_shows_none : fault_among true [] (steps_of_run None 1 [] (guest 1 (replicate 4 0))) ≡ None
+unfolding run_by after steps_in first_fault latest_fault isa.decoded isa.row_of isa.table signed_value
 one_trap_shows_none = refl
 
 -- two harts take turns: each traps once before the first of them traps again
-a_trap_of_another_hart_shows_none : fault_among true [] (steps_of_run 2 [] (guest 2 (replicate 4 0))) ≡ None
-unfolding run_from after steps_in first_fault latest_fault isa.decoded isa.row_of isa.table signed_value
+a_trap_of_another_hart_shows_none : fault_among true [] (steps_of_run None 2 [] (guest 2 (replicate 4 0))) ≡ None
+unfolding run_by after steps_in first_fault latest_fault isa.decoded isa.row_of isa.table signed_value
 a_trap_of_another_hart_shows_none = refl
 
-each_hart_has_its_own : fault_among true [] (steps_of_run 5 [] (guest 2 (replicate 4 0))) ≡ Some (record { steps = 3; fault = illegal })
-unfolding run_from after steps_in first_fault latest_fault isa.decoded isa.row_of isa.table signed_value
+each_hart_has_its_own : fault_among true [] (steps_of_run None 5 [] (guest 2 (replicate 4 0))) ≡ Some (record { steps = 3; fault = illegal })
+unfolding run_by after steps_in first_fault latest_fault isa.decoded isa.row_of isa.table signed_value
 each_hart_has_its_own = refl
 
 -- the handler's first instruction is `addi x0, x0, 0`, and traps follow each other with one step between them
-a_handler_that_begins_shows_none : fault_among true [] (steps_of_run 4 [] (handled (0 ∷ 0 ∷ 0 ∷ 0 ∷ 0x13 ∷ 0 ∷ 0 ∷ 0 ∷ []))) ≡ None
-unfolding run_from after steps_in first_fault latest_fault isa.decoded isa.row_of isa.table signed_value effect
+a_handler_that_begins_shows_none : fault_among true [] (steps_of_run None 4 [] (handled (0 ∷ 0 ∷ 0 ∷ 0 ∷ 0x13 ∷ 0 ∷ 0 ∷ 0 ∷ []))) ≡ None
+unfolding run_by after steps_in first_fault latest_fault isa.decoded isa.row_of isa.table signed_value effect
 a_handler_that_begins_shows_none = refl
 
 -- runs that stop, and that do not
-a_run_stops_at_its_fault : (run_with true None 5 [] (guest 1 (replicate 4 0))).ended ≡ ended.Fault illegal
-unfolding run_from after steps_in first_fault latest_fault isa.decoded isa.row_of isa.table signed_value
+a_run_stops_at_its_fault : (run_with None true None 5 [] (guest 1 (replicate 4 0))).ended ≡ ended.Fault illegal
+unfolding run_by after steps_in first_fault latest_fault isa.decoded isa.row_of isa.table signed_value
 a_run_stops_at_its_fault = refl
 
-a_run_goes_on : (run_with false None 5 [] (guest 1 (replicate 4 0))).ended ≡ ended.StepsSpent
-unfolding run_from after steps_in first_fault latest_fault isa.decoded isa.row_of isa.table signed_value
+a_run_goes_on : (run_with None false None 5 [] (guest 1 (replicate 4 0))).ended ≡ ended.StepsSpent
+unfolding run_by after steps_in first_fault latest_fault isa.decoded isa.row_of isa.table signed_value
 a_run_goes_on = refl
 
-it_makes_two_turns : turns_of true 5 [] (guest 1 (replicate 4 0)) ≡ 2
-unfolding run_from after steps_in first_fault latest_fault isa.decoded isa.row_of isa.table signed_value
+it_makes_two_turns : turns_of None true 5 [] (guest 1 (replicate 4 0)) ≡ 2
+unfolding run_by after steps_in first_fault latest_fault isa.decoded isa.row_of isa.table signed_value
 it_makes_two_turns = refl
 
 -- searches of an extended session
@@ -103,12 +103,12 @@ a_trace_from_0_has_the_first_turn : (t0 t1 : Taken) → trace_of (Some (0, 0)) (
 unfolding lines_from
 a_trace_from_0_has_the_first_turn t0 t1 = refl
 
-a_trace_ends_with_the_step_that_shows_the_fault : length (run_with true (Some (0, 9)) 5 [] (guest 1 (replicate 4 0))).lines ≡ 2
-unfolding run_from after steps_in first_fault latest_fault lines_from isa.decoded isa.row_of isa.table signed_value
+a_trace_ends_with_the_step_that_shows_the_fault : length (run_with None true (Some (0, 9)) 5 [] (guest 1 (replicate 4 0))).lines ≡ 2
+unfolding run_by after steps_in first_fault latest_fault lines_from isa.decoded isa.row_of isa.table signed_value
 a_trace_ends_with_the_step_that_shows_the_fault = refl
 
 -- a run of which nothing is asked
-a_plain_run_is_the_run_of_all_its_steps : (steps : ℕ) (input : List ℕ) (g : Guest) → (run_with false None steps input g).written ≡ (ran steps input g).written
+a_plain_run_is_the_run_of_all_its_steps : (steps : ℕ) (input : List ℕ) (g : Guest) → (run_with None false None steps input g).written ≡ (ran steps input g).written
 a_plain_run_is_the_run_of_all_its_steps steps input g = refl
 
 -- how faults are reported

@@ -6,7 +6,8 @@ use Rattle.rvm_command.specs.declared.fault.Fault.{Fault}
 use Rattle.rvm_command.specs.declared.run.Ended.{Ended}
 use Rattle.rvm_command.specs.declared.run.Ended.TheVariants as ended
 use Rattle.rvm_command.specs.Faults.{Shown, first_fault, latest_fault, or_later, shown}
-use Rattle.rvm_command.specs.Run.{After, Run, after, left, offers, run_from, step_of}
+use Rattle.rvm_command.specs.Order.{drawn}
+use Rattle.rvm_command.specs.Run.{After, Run, after, left, offers, run_by, step_by}
 use Rattle.rvm_command.specs.Taken.{Taken, steps_in}
 use Rattle.rvm_command.specs.Turns.{between, ends_turns, taken_by}
 use Rattle.rvm_command.specs.Watched.{fault_among, steps_of_run, turns_of, turns_until}
@@ -14,42 +15,42 @@ use Rattle.rvm_command.proofs.Runs.{after_both, after_one}
 use Rattle.rvm_command.proofs.Watching.{follows, no_turns_left, rest_after, steps_between, steps_both, steps_drains, steps_offers, steps_one, turn_then}
 
 -- a run of n turns takes at most n steps
-abbrev AreFew : ℕ → Type 0
-AreFew n = (t : ℕ) (input : List ℕ) (g : Guest) → length (steps_in (run_from n t input g).events g) ≤ n
+abbrev AreFew : (seed : Option ℕ) → ℕ → Type 0
+AreFew seed n = (t : ℕ) (input : List ℕ) (g : Guest) → length (steps_in (run_by seed n t input g).events g) ≤ n
 
-rest_few : (end : Option Ended) (n t : ℕ) (input : List ℕ) (g : Guest) → AreFew n → length (steps_in (rest_after end n t input g).events g) ≤ n
-rest_few None n t input g few = few t input g
-rest_few (Some (ended.Fault f)) n t input g few = few t input g
-rest_few (Some (ended.HaltedWith s)) n t input g few = omega (arith, ap length (steps_drains g))
-rest_few (Some ended.StepsSpent) n t input g few = omega (arith, ap length (steps_drains g))
+rest_few : (seed : Option ℕ) (end : Option Ended) (n t : ℕ) (input : List ℕ) (g : Guest) → AreFew seed n → length (steps_in (rest_after seed end n t input g).events g) ≤ n
+rest_few seed None n t input g few = few t input g
+rest_few seed (Some (ended.Fault f)) n t input g few = few t input g
+rest_few seed (Some (ended.HaltedWith s)) n t input g few = omega (arith, ap length (steps_drains g))
+rest_few seed (Some ended.StepsSpent) n t input g few = omega (arith, ap length (steps_drains g))
 
 -- what follows a turn takes at most as many as are left
-follows_few : (end : Option Ended) (n t : ℕ) (input : List ℕ) (g : Guest) → AreFew n → length (steps_in (follows end n t input g).events g) ≤ n
-follows_few end n t input g few =
+follows_few : (seed : Option ℕ) (end : Option Ended) (n t : ℕ) (input : List ℕ) (g : Guest) → AreFew seed n → length (steps_in (follows seed end n t input g).events g) ≤ n
+follows_few seed end n t input g few =
     let bs = between end t g in
-    let rest = rest_after end n t input (after bs g).guest in
+    let rest = rest_after seed end n t input (after bs g).guest in
     let all : steps_in (bs ++ rest.events) g ≡ steps_in rest.events (after bs g).guest =
     steps_both bs rest.events g ∙ ap (λ (l : List Taken). l ++ steps_in rest.events (after bs g).guest) (steps_between end t g) in
-    rw all (rest_few end n t input (after bs g).guest few)
+    rw all (rest_few seed end n t input (after bs g).guest few)
 
-pub steps_few : (n : ℕ) → AreFew n
-steps_few zero t input g = omega (arith, ap (λ (r : Run). length (steps_in r.events g)) (no_turns_left t input g), ap length (steps_drains g))
-steps_few (suc n) t input g =
+pub steps_few : (seed : Option ℕ) (n : ℕ) → AreFew seed n
+steps_few seed zero t input g = omega (arith, ap (λ (r : Run). length (steps_in r.events g)) (no_turns_left seed t input g), ap length (steps_drains g))
+steps_few seed (suc n) t input g =
     let f = (after (offers input) g).guest in
-    let s = answered (step_of t g) f in
-    let es = offers input ++ step_of t g ∷ [] in
+    let s = answered (step_by seed t g) f in
+    let es = offers input ++ step_by seed t g ∷ [] in
     let end = ends_turns s.reply None false in
-    let others = follows end n (t + 1) (left input g) s.guest in
+    let others = follows seed end n (t + 1) (left input g) s.guest in
     let left_by : (after es g).guest ≡ s.guest =
-    ap (λ (x : After). x.guest) (after_both (offers input) (step_of t g ∷ []) g) ∙ ap (λ (x : After). x.guest) (after_one (step_of t g) f) in
-    let one : steps_in es g ≡ taken_by (t % length g.board.harts) f ∷ [] =
-    steps_both (offers input) (step_of t g ∷ []) g ∙ ap (λ (l : List Taken). l ++ steps_in (step_of t g ∷ []) f) (steps_offers input g)
-    ∙ steps_one (t % length g.board.harts) f in
-    let all : steps_in (run_from (suc n) t input g).events g ≡ taken_by (t % length g.board.harts) f ∷ steps_in others.events s.guest =
-    ap (λ (r : Run). steps_in r.events g) (turn_then None false n t input g) ∙ steps_both es others.events g
+    ap (λ (x : After). x.guest) (after_both (offers input) (step_by seed t g ∷ []) g) ∙ ap (λ (x : After). x.guest) (after_one (step_by seed t g) f) in
+    let one : steps_in es g ≡ taken_by (drawn seed t % length g.board.harts) f ∷ [] =
+    steps_both (offers input) (step_by seed t g ∷ []) g ∙ ap (λ (l : List Taken). l ++ steps_in (step_by seed t g ∷ []) f) (steps_offers input g)
+    ∙ steps_one (drawn seed t % length g.board.harts) f in
+    let all : steps_in (run_by seed (suc n) t input g).events g ≡ taken_by (drawn seed t % length g.board.harts) f ∷ steps_in others.events s.guest =
+    ap (λ (r : Run). steps_in r.events g) (turn_then seed None false n t input g) ∙ steps_both es others.events g
     ∙ ap (λ (x : Guest). steps_in es g ++ steps_in others.events x) left_by
     ∙ ap (λ (l : List Taken). l ++ steps_in others.events s.guest) one in
-    omega (arith, ap length all, follows_few end n (t + 1) (left input g) s.guest (steps_few n))
+    omega (arith, ap length all, follows_few seed end n (t + 1) (left input g) s.guest (steps_few seed n))
 
 -- what is found is found within these steps
 abbrev IsWithin : (n : ℕ) → Option Shown → Type 0
@@ -76,7 +77,7 @@ within_turns None steps is = omega arith
 within_turns (Some found) steps is = is
 
 -- a run that stops at a fault makes no more turns than one that does not
-pub turns_within : (stop : Bool) (steps : ℕ) (input : List ℕ) (g : Guest) → turns_of stop steps input g ≤ steps
-turns_within stop steps input g =
-    let us = steps_of_run steps input g in
-    within_turns (fault_among stop [] us) steps (fault_within stop steps us (steps_few steps 0 input g))
+pub turns_within : (seed : Option ℕ) (stop : Bool) (steps : ℕ) (input : List ℕ) (g : Guest) → turns_of seed stop steps input g ≤ steps
+turns_within seed stop steps input g =
+    let us = steps_of_run seed steps input g in
+    within_turns (fault_among stop [] us) steps (fault_within stop steps us (steps_few seed steps 0 input g))

@@ -23,8 +23,8 @@ flushed r end old new before after trace_before mid trace_after run kept =
     }
 
 -- a run that wrote something, to its output or its trace, writes
-pub writes : (trace : Option TraceArguments) (report : Option ReportArguments) (stop : Bool) (steps : ℕ) (input : List ℕ) (g : Guest)
-    → let r = run_with stop (traced_of trace) steps input g in (0 < length r.written) ⊎ (0 < length r.lines) → Writes r trace report
-writes trace report stop steps input g (inl some) = inl some
-writes None report stop steps input g (inr some) = let it : 0 < 0 = some in absurd (omega (arith, it))
-writes (Some trace) report stop steps input g (inr some) = inr (inl tt)
+pub writes : (trace : Option TraceArguments) (report : Option ReportArguments) (seed : Option ℕ) (stop : Bool) (steps : ℕ) (input : List ℕ) (g : Guest)
+    → let r = run_with seed stop (traced_of trace) steps input g in (0 < length r.written) ⊎ (0 < length r.lines) → Writes r trace report
+writes trace report seed stop steps input g (inl some) = inl some
+writes None report seed stop steps input g (inr some) = let it : 0 < 0 = some in absurd (omega (arith, it))
+writes (Some trace) report seed stop steps input g (inr some) = inr (inl tt)

@@ -19,7 +19,7 @@ use Rattle.rvm_command.specs.Reports.{report_text}
 use Rattle.rvm_command.specs.Taken.{steps_in}
 use Rattle.rvm_command.specs.Watched.{Watched, end_at, fault_among, run_with, trace_of, traced_of, turns_of, turns_until}
 use Rattle.rvm_command.proofs.FewSteps.{turns_within}
-use Rattle.rvm_command.specs.Run.{Run, after, drains, first, left, offers, run_from, step_of, unless_halted, unless_refused}
+use Rattle.rvm_command.specs.Run.{Run, after, drains, first, left, offers, run_by, step_by, unless_halted, unless_refused}
 
 -- lists with the same first bytes have the same first bytes but one
 fewer : (n : ℕ) (a b : List ℕ) → take (suc n) a ≡ take (suc n) b → take n a ≡ take n b
@@ -45,46 +45,46 @@ left_same n x a b (reply.Regs values) same = ap (drop 1) same
 left_same n x a b (reply.Line address word) same = ap (drop 1) same
 
 -- a turn after what was offered
-abbrev turned : (t : ℕ) → Guest → List BoardEvent → Answered
-turned t g offered = answered (step_of t g) (after offered g).guest
+abbrev turned : (seed : Option ℕ) → (t : ℕ) → Guest → List BoardEvent → Answered
+turned seed t g offered = answered (step_by seed t g) (after offered g).guest
 
 -- what is taken after it
 abbrev taken_at : (t : ℕ) → Guest → List BoardEvent
 taken_at t g = if t % 64 == 63 then drains g else []
 
 -- the guest of the next turn
-abbrev next_guest : (t : ℕ) → Guest → List BoardEvent → Guest
-next_guest t g offered = (after (taken_at t (turned t g offered).guest) (turned t g offered).guest).guest
+abbrev next_guest : (seed : Option ℕ) → (t : ℕ) → Guest → List BoardEvent → Guest
+next_guest seed t g offered = (after (taken_at t (turned seed t g offered).guest) (turned seed t g offered).guest).guest
 
 -- a turn, and the run that follows it
-abbrev turn_of : (t : ℕ) → Guest → List BoardEvent → Run → Run
-turn_of t g offered rest =
-    first (offered ++ step_of t g ∷ [])
-    (unless_halted (turned t g offered).reply (turned t g offered).guest
-    (first (taken_at t (turned t g offered).guest) rest))
+abbrev turn_of : (seed : Option ℕ) → (t : ℕ) → Guest → List BoardEvent → Run → Run
+turn_of seed t g offered rest =
+    first (offered ++ step_by seed t g ∷ [])
+    (unless_halted (turned seed t g offered).reply (turned seed t g offered).guest
+    (first (taken_at t (turned seed t g offered).guest) rest))
 
-turn_is : (n t : ℕ) (input : List ℕ) (g : Guest) → run_from (suc n) t input g
-    ≡ turn_of t g (offers input) (run_from n (t + 1) (left input g) (next_guest t g (offers input)))
-unfolding run_from
-turn_is n t input g = refl
+turn_is : (seed : Option ℕ) (n t : ℕ) (input : List ℕ) (g : Guest) → run_by seed (suc n) t input g
+    ≡ turn_of seed t g (offers input) (run_by seed n (t + 1) (left input g) (next_guest seed t g (offers input)))
+unfolding run_by
+turn_is seed n t input g = refl
 
-no_turn : (t : ℕ) (a b : List ℕ) (g : Guest) → run_from zero t a g ≡ run_from zero t b g
-unfolding run_from
-no_turn t a b g = refl
+no_turn : (seed : Option ℕ) (t : ℕ) (a b : List ℕ) (g : Guest) → run_by seed zero t a g ≡ run_by seed zero t b g
+unfolding run_by
+no_turn seed t a b g = refl
 
 -- runs of n turns with the same first n bytes of input are the same
-same_run : (n t : ℕ) (a b : List ℕ) (g : Guest) → take n a ≡ take n b → run_from n t a g ≡ run_from n t b g
-same_run zero t a b g same = no_turn t a b g
-same_run (suc n) t [] [] g same = refl
-same_run (suc n) t [] (y ∷ b) g same = absurd cc
-same_run (suc n) t (x ∷ a) [] g same = absurd cc
-same_run (suc n) t (x ∷ a) (y ∷ b) g same =
+same_run : (seed : Option ℕ) (n t : ℕ) (a b : List ℕ) (g : Guest) → take n a ≡ take n b → run_by seed n t a g ≡ run_by seed n t b g
+same_run seed zero t a b g same = no_turn seed t a b g
+same_run seed (suc n) t [] [] g same = refl
+same_run seed (suc n) t [] (y ∷ b) g same = absurd cc
+same_run seed (suc n) t (x ∷ a) [] g same = absurd cc
+same_run seed (suc n) t (x ∷ a) (y ∷ b) g same =
     let next : x ≡ y = ap (λ l. get_or l 0 0) same in
-    subst (λ z. take (suc n) (x ∷ a) ≡ take (suc n) (z ∷ b) → run_from (suc n) t (x ∷ a) g ≡ run_from (suc n) t (z ∷ b) g) next
-    (λ it. turn_is n t (x ∷ a) g
-    ∙ ap (turn_of t g (Input x ∷ [])) (same_run n (t + 1) (left (x ∷ a) g) (left (x ∷ b) g) (next_guest t g (Input x ∷ []))
+    subst (λ z. take (suc n) (x ∷ a) ≡ take (suc n) (z ∷ b) → run_by seed (suc n) t (x ∷ a) g ≡ run_by seed (suc n) t (z ∷ b) g) next
+    (λ it. turn_is seed n t (x ∷ a) g
+    ∙ ap (turn_of seed t g (Input x ∷ [])) (same_run seed n (t + 1) (left (x ∷ a) g) (left (x ∷ b) g) (next_guest seed t g (Input x ∷ []))
     (left_same n x a b (answered (Input x) g).reply it))
-    ∙ sym (turn_is n t (x ∷ b) g)) same
+    ∙ sym (turn_is seed n t (x ∷ b) g)) same
 
 -- the first bytes of fewer
 take_fewer : (n m : ℕ) (a b : List ℕ) → n ≤ m → a ≡ take m b → take n a ≡ take n b
@@ -103,15 +103,15 @@ watched_of stop range steps whole run g =
       lines = trace_of range (steps_in run.events g);
     }
 
-same_watched : (stop : Bool) (range : Option (ℕ × ℕ)) (steps : ℕ) (begun input : List ℕ) (g : Guest) → begun ≡ take steps input → run_with stop range steps begun g ≡ run_with stop range steps input g
-same_watched stop range steps begun input g is =
-    let whole : run_from steps 0 begun g ≡ run_from steps 0 input g = same_run steps 0 begun input g (take_fewer steps steps begun input (omega arith) is) in
-    let n = turns_of stop steps begun g in
-    let turns : n ≡ turns_of stop steps input g = ap (λ (r : Run). turns_until (fault_among stop [] (steps_in r.events g)) steps) whole in
-    let run : run_from n 0 begun g ≡ run_from n 0 input g = same_run n 0 begun input g (take_fewer n steps begun input (turns_within stop steps begun g) is) in
-    ap (λ (r : Run). watched_of stop range steps r (run_from n 0 begun g) g) whole
-    ∙ ap (λ (r : Run). watched_of stop range steps (run_from steps 0 input g) r g) run
-    ∙ ap (λ (k : ℕ). watched_of stop range steps (run_from steps 0 input g) (run_from k 0 input g) g) turns
+same_watched : (seed : Option ℕ) (stop : Bool) (range : Option (ℕ × ℕ)) (steps : ℕ) (begun input : List ℕ) (g : Guest) → begun ≡ take steps input → run_with seed stop range steps begun g ≡ run_with seed stop range steps input g
+same_watched seed stop range steps begun input g is =
+    let whole : run_by seed steps 0 begun g ≡ run_by seed steps 0 input g = same_run seed steps 0 begun input g (take_fewer steps steps begun input (omega arith) is) in
+    let n = turns_of seed stop steps begun g in
+    let turns : n ≡ turns_of seed stop steps input g = ap (λ (r : Run). turns_until (fault_among stop [] (steps_in r.events g)) steps) whole in
+    let run : run_by seed n 0 begun g ≡ run_by seed n 0 input g = same_run seed n 0 begun input g (take_fewer n steps begun input (turns_within seed stop steps begun g) is) in
+    ap (λ (r : Run). watched_of stop range steps r (run_by seed n 0 begun g) g) whole
+    ∙ ap (λ (r : Run). watched_of stop range steps (run_by seed steps 0 input g) r g) run
+    ∙ ap (λ (k : ℕ). watched_of stop range steps (run_by seed steps 0 input g) (run_by seed k 0 input g) g) turns
 
 if_ok : {X E : Type 0} (r : Result X E) (P Q : X → Type 0) → ((x : X) → P x → Q x) → IfOk r P → IfOk r Q
 if_ok (Ok x) P Q f p = f x p
@@ -124,7 +124,7 @@ pub ends_so : (a : RunArguments) (file begun input symbols : List ℕ) (end : Re
 ends_so a file begun input symbols (Ok ended) before after trace_before trace_after report_before report_after is (begun_so, came) = (
   begun_so,
   if_ok (image_of a.guest.raw file) _ _ (λ i came.
-      let same = same_watched a.stop_at_fault (traced_of a.trace) a.steps begun input (guest_of a.guest.harts a.guest.pages i.0 i.1) is in (
+      let same = same_watched a.seed a.stop_at_fault (traced_of a.trace) a.steps begun input (guest_of a.guest.harts a.guest.pages i.0 i.1) is in (
         came.0 ∙ ap (λ (r : Watched). r.ended) same,
         subst (Appends before after) (ap (λ (r : Watched). r.written) same) came.1,
         subst (λ (l : List (List ℕ)). Appends trace_before trace_after (concat l)) (ap (λ (r : Watched). r.lines) same) came.2,
@@ -137,6 +137,6 @@ ends_so a file begun input symbols (Err r) before after trace_before trace_after
       failed,
       begun_so,
       if_ok (image_of a.guest.raw file) _ _ (λ i some.
-          let same = same_watched a.stop_at_fault (traced_of a.trace) a.steps begun input (guest_of a.guest.harts a.guest.pages i.0 i.1) is in
+          let same = same_watched a.seed a.stop_at_fault (traced_of a.trace) a.steps begun input (guest_of a.guest.harts a.guest.pages i.0 i.1) is in
           subst (λ (r : Watched). Writes r a.trace a.report) same some) came,
     )

@@ -11,7 +11,7 @@ use Rattle.rvm_hart.specs.Rows.{effect}
 use Rattle.rvm_isa.specs.Table as isa
 use Rattle.rvm_word.specs.Word.{signed_value}
 use Rattle.rvm_command.specs.Profile.{profile, steps_between, symbol_lines}
-use Rattle.rvm_command.specs.Run.{after, run_from}
+use Rattle.rvm_command.specs.Run.{after, run_by}
 use Rattle.rvm_command.specs.SymbolLines.{line_told, refused_from, refused_line, symbols_in, symbols_of}
 use Rattle.rvm_command.specs.Symbols.{Symbol, address_of}
 use Rattle.rvm_command.specs.Taken.{Taken, steps_in}
@@ -63,23 +63,23 @@ guest harts = fresh (at_reset harts 0x80000000 words)
 
 -- hart 0, hart 1, and hart 0 again, which traps
 abbrev three_turns : List Taken
-three_turns = steps_of_run 3 [] (guest 2)
+three_turns = steps_of_run None 3 [] (guest 2)
 
 -- the symbol before has the words up to the next one; of two with one address the second has them; the last one has
 -- those up to the end of RAM
 each_symbol_has_a_line : profile 1 (codes "00000001 A size\n80000000 T _start\n80000000 T main\n80000004 t stop\n") three_turns
     ≡ codes "         0  size\n         0  _start\n         2  main\n         1  stop\n"
-unfolding run_from after steps_in effect isa.decoded isa.row_of isa.table signed_value lines_from words_from line_told symbols_in address_of symbol_lines steps_between digits
+unfolding run_by after steps_in effect isa.decoded isa.row_of isa.table signed_value lines_from words_from line_told symbols_in address_of symbol_lines steps_between digits
 each_symbol_has_a_line = refl
 
 -- a word that begins before the address of a symbol is none of it
 a_symbol_begins_with_a_whole_word : profile 1 (codes "80000001 t inner\n") three_turns ≡ codes "         1  inner\n"
-unfolding run_from after steps_in effect isa.decoded isa.row_of isa.table signed_value lines_from words_from line_told symbols_in address_of symbol_lines steps_between digits
+unfolding run_by after steps_in effect isa.decoded isa.row_of isa.table signed_value lines_from words_from line_told symbols_in address_of symbol_lines steps_between digits
 a_symbol_begins_with_a_whole_word = refl
 
 -- with no page there is no word of RAM
 nothing_runs_outside_ram : profile 0 (codes "80000000 T _start\n") three_turns ≡ codes "         0  _start\n"
-unfolding run_from after steps_in effect isa.decoded isa.row_of isa.table signed_value lines_from words_from line_told symbols_in address_of symbol_lines steps_between digits
+unfolding run_by after steps_in effect isa.decoded isa.row_of isa.table signed_value lines_from words_from line_told symbols_in address_of symbol_lines steps_between digits
 nothing_runs_outside_ram = refl
 
 an_instruction_that_waits_does_not_count : steps_between 1

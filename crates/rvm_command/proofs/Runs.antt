@@ -31,7 +31,7 @@ use Rattle.rvm_board.proofs.Waiting.{as_they_are, while_some, while_within}
 use Rattle.rvm_command.specs.declared.run.Ended.{Ended}
 use Rattle.rvm_command.specs.declared.run.Ended.TheVariants as ended
 use Rattle.rvm_command.specs.Buffered.{GoesOut}
-use Rattle.rvm_command.specs.Run.{After, IsAfter, IsPartWay, Run, after, bytes_in, drains, first, left, offers, run_from, step_of, unless_halted, unless_refused}
+use Rattle.rvm_command.specs.Run.{After, IsAfter, IsPartWay, Run, after, bytes_in, drains, first, left, offers, run_by, run_from, step_of, unless_halted, unless_refused}
 use Rattle.rvm_command.specs.Slices.{GoesOn, rest_of_run, status_of, takes_none}
 
 pub appends_none : (a : Option (List ℕ)) → Appends a a []
@@ -380,7 +380,7 @@ abbrev stepping : (n t h : ℕ) → (input : List ℕ) → Answered → Run
 stepping n t h input s = first (Step h ∷ []) (unless_halted s.reply s.guest (behind_drain (nat_eq (t % 64) 63) n (t + 1) input s.guest))
 
 turn_first : (n t : ℕ) (input : List ℕ) (g : Guest) → run_from (suc n) t input g ≡ first (offers input) (stepping n t (t % length g.board.harts) (left input g) (answered (step_of t g) (after (offers input) g).guest))
-unfolding run_from
+unfolding run_by
 turn_first n t input g =
     let s = answered (step_of t g) (after (offers input) g).guest in
     let rest = unless_halted s.reply s.guest (behind_drain (nat_eq (t % 64) 63) n (t + 1) (left input g) s.guest) in
@@ -650,7 +650,7 @@ some_made is_so (suc k) h g some = while_some is_so k h g
 
 -- the run that has no turn left
 pub spent_run : (n t : ℕ) (input : List ℕ) (g : Guest) → n ≡ 0 → run_from n t input g ≡ record { events = drains g; ended = ended.StepsSpent }
-unfolding run_from
+unfolding run_by
 spent_run n t input g e = rw e refl
 
 -- it ended, it goes on, or what the guest sent is taken first

@@ -3,7 +3,6 @@ use Rattle.std.proofs.Common.{◌≡◌, ◌⊎◌, ℕ, zero, suc, ◌+◌, ◌
 use Rattle.std.proofs.lemmas.Bool.{cases_eq, ne_eqb}
 use Rattle.std.proofs.lemmas.Bool.Decides.{nat_tests}
 use Rattle.std.proofs.lemmas.List.{get_or-set_same, get_or-set_other, get_or-replicate, length-append, length-set}
-use Rattle.std.proofs.lemmas.Nat.{mod_below}
 use Rattle.std.specs.Prelude.{slice_set, option_map, unwrap_or, is_some, not}
 use Rattle.std.specs.List.{concat}
 use Rattle.std.specs.Io.KnownBytes.{Appends}
@@ -25,11 +24,12 @@ use Rattle.rvm_command.specs.Buffered.{GoesOut}
 use Rattle.rvm_command.specs.Counting.{AreRuns, noted as noted_step}
 use Rattle.rvm_command.proofs.Covering.{counted_more}
 use Rattle.rvm_command.specs.Faults.{Shown, cause_of, fault_at, fault_of, first_fault, latest_fault, or_later, shown}
-use Rattle.rvm_command.specs.Run.{After, IsAfter, IsPartWay, Run, after, bytes_in, drains, first, left, offers, run_from, step_of, unless_halted}
+use Rattle.rvm_command.specs.Order.{drawn}
+use Rattle.rvm_command.specs.Run.{After, IsAfter, IsPartWay, Run, after, bytes_in, drains, first, left, offers, run_by, step_by, unless_halted}
 use Rattle.rvm_command.specs.Taken.{Taken, step_in, steps_in}
 use Rattle.rvm_command.specs.Turns.{between, drains_after, ends_turns, stops_at, taken_by}
 use Rattle.rvm_command.specs.Watched.{BreaksOff, HasRun, end_at, fault_among, is_traced, line_at, lines_from, run_with, steps_of_run, trace_of, turns_of, turns_until}
-use Rattle.rvm_command.proofs.Runs.{Finished, Progress, after_more, after_none, after_one, appends_more, appends_none, behind_drain, broken_off, bytes_both, ends_slice, finished, goes_quietly, is_after_both, is_after_none, is_after_one, last_drains, none_made, offer_quiet, out_more, part_way, quiet_halted, some_bytes, stays, there_steps}
+use Rattle.rvm_command.proofs.Runs.{Finished, Progress, after_more, after_none, after_one, appends_more, appends_none, broken_off, bytes_both, ends_slice, finished, goes_quietly, is_after_both, is_after_none, is_after_one, last_drains, none_made, offer_quiet, out_more, part_way, quiet_halted, some_bytes, stays, there_steps}
 
 -- ---- steps among events
 
@@ -103,62 +103,66 @@ turn_quiet h input now fed offered =
 -- ---- the rest of a run after turns
 
 -- the rest of a run whose turns ended so far as this: n turns from turn t on, or the last drains
-abbrev pub rest_after : Option Ended → (n t : ℕ) → (input : List ℕ) → Guest → Run
-rest_after None n t input g = run_from n t input g
-rest_after (Some (ended.Fault f)) n t input g = run_from n t input g
-rest_after (Some (ended.HaltedWith s)) n t input g = record { events = drains g; ended = ended.HaltedWith s }
-rest_after (Some ended.StepsSpent) n t input g = record { events = drains g; ended = ended.StepsSpent }
+abbrev pub rest_after : (seed : Option ℕ) → Option Ended → (n t : ℕ) → (input : List ℕ) → Guest → Run
+rest_after seed None n t input g = run_by seed n t input g
+rest_after seed (Some (ended.Fault f)) n t input g = run_by seed n t input g
+rest_after seed (Some (ended.HaltedWith s)) n t input g = record { events = drains g; ended = ended.HaltedWith s }
+rest_after seed (Some ended.StepsSpent) n t input g = record { events = drains g; ended = ended.StepsSpent }
 
--- what follows the step of a turn
-abbrev pub follows : Option Ended → (n t : ℕ) → (input : List ℕ) → Guest → Run
-follows end n t input g = first (between end t g) (rest_after end n t input (after (between end t g) g).guest)
+-- what follows seed the step of a turn
+abbrev pub follows : (seed : Option ℕ) → Option Ended → (n t : ℕ) → (input : List ℕ) → Guest → Run
+follows seed end n t input g = first (between end t g) (rest_after seed end n t input (after (between end t g) g).guest)
 
-goes_on_unless : (shown : Option Fault) (stop : Bool) (n t : ℕ) (input : List ℕ) (g : Guest) → behind_drain (nat_eq (t % 64) 63) n (t + 1) input g ≡ follows (stops_at shown stop) n (t + 1) input g
-goes_on_unless None stop n t input g = ap (λ (b : Bool). behind_drain b n (t + 1) input g) (ends_slice t)
-goes_on_unless (Some f) true n t input g = ap (λ (b : Bool). behind_drain b n (t + 1) input g) (ends_slice t)
-goes_on_unless (Some f) false n t input g = ap (λ (b : Bool). behind_drain b n (t + 1) input g) (ends_slice t)
+-- n turns from turn t on, after a drain or not
+abbrev behind_by : (seed : Option ℕ) → Bool → (n t : ℕ) → (input : List ℕ) → Guest → Run
+behind_by seed drain n t input g = let taken = cond drain (drains g) [] in first taken (run_by seed n t input (after taken g).guest)
 
-after_answer : (r : BoardReply) (shown : Option Fault) (stop : Bool) (n t : ℕ) (input : List ℕ) (g : Guest) → unless_halted r g (behind_drain (nat_eq (t % 64) 63) n (t + 1) input g) ≡ follows (ends_turns r shown stop) n (t + 1) input g
-after_answer (reply.Halted s) shown stop n t input g = ap (λ (x : After). record { events = drains x.guest; ended = ended.HaltedWith s }) (sym (after_none g))
-after_answer (reply.Break a) shown stop n t input g = goes_on_unless shown stop n t input g
-after_answer reply.Retired shown stop n t input g = goes_on_unless shown stop n t input g
-after_answer (reply.Trapped x) shown stop n t input g = goes_on_unless shown stop n t input g
-after_answer (reply.Interrupted i) shown stop n t input g = goes_on_unless shown stop n t input g
-after_answer reply.Done shown stop n t input g = goes_on_unless shown stop n t input g
-after_answer (reply.Bytes bytes) shown stop n t input g = goes_on_unless shown stop n t input g
-after_answer (reply.Regs values) shown stop n t input g = goes_on_unless shown stop n t input g
-after_answer (reply.Line a word) shown stop n t input g = goes_on_unless shown stop n t input g
-after_answer (reply.Refused why) shown stop n t input g = goes_on_unless shown stop n t input g
+goes_on_unless : (seed : Option ℕ) (shown : Option Fault) (stop : Bool) (n t : ℕ) (input : List ℕ) (g : Guest) → behind_by seed (nat_eq (t % 64) 63) n (t + 1) input g ≡ follows seed (stops_at shown stop) n (t + 1) input g
+goes_on_unless seed None stop n t input g = ap (λ (b : Bool). behind_by seed b n (t + 1) input g) (ends_slice t)
+goes_on_unless seed (Some f) true n t input g = ap (λ (b : Bool). behind_by seed b n (t + 1) input g) (ends_slice t)
+goes_on_unless seed (Some f) false n t input g = ap (λ (b : Bool). behind_by seed b n (t + 1) input g) (ends_slice t)
 
-pub turn_then : (shown : Option Fault) (stop : Bool) (n t : ℕ) (input : List ℕ) (g : Guest) → let s = answered (step_of t g) (after (offers input) g).guest in run_from (suc n) t input g ≡ first (offers input ++ step_of t g ∷ []) (follows (ends_turns s.reply shown stop) n (t + 1) (left input g) s.guest)
-unfolding run_from
-turn_then shown stop n t input g =
-    let s = answered (step_of t g) (after (offers input) g).guest in
-    ap (first (offers input ++ step_of t g ∷ [])) (after_answer s.reply shown stop n t (left input g) s.guest)
+after_answer : (seed : Option ℕ) (r : BoardReply) (shown : Option Fault) (stop : Bool) (n t : ℕ) (input : List ℕ) (g : Guest) → unless_halted r g (behind_by seed (nat_eq (t % 64) 63) n (t + 1) input g) ≡ follows seed (ends_turns r shown stop) n (t + 1) input g
+after_answer seed (reply.Halted s) shown stop n t input g = ap (λ (x : After). record { events = drains x.guest; ended = ended.HaltedWith s }) (sym (after_none g))
+after_answer seed (reply.Break a) shown stop n t input g = goes_on_unless seed shown stop n t input g
+after_answer seed reply.Retired shown stop n t input g = goes_on_unless seed shown stop n t input g
+after_answer seed (reply.Trapped x) shown stop n t input g = goes_on_unless seed shown stop n t input g
+after_answer seed (reply.Interrupted i) shown stop n t input g = goes_on_unless seed shown stop n t input g
+after_answer seed reply.Done shown stop n t input g = goes_on_unless seed shown stop n t input g
+after_answer seed (reply.Bytes bytes) shown stop n t input g = goes_on_unless seed shown stop n t input g
+after_answer seed (reply.Regs values) shown stop n t input g = goes_on_unless seed shown stop n t input g
+after_answer seed (reply.Line a word) shown stop n t input g = goes_on_unless seed shown stop n t input g
+after_answer seed (reply.Refused why) shown stop n t input g = goes_on_unless seed shown stop n t input g
+
+pub turn_then : (seed : Option ℕ) (shown : Option Fault) (stop : Bool) (n t : ℕ) (input : List ℕ) (g : Guest) → let s = answered (step_by seed t g) (after (offers input) g).guest in run_by seed (suc n) t input g ≡ first (offers input ++ step_by seed t g ∷ []) (follows seed (ends_turns s.reply shown stop) n (t + 1) (left input g) s.guest)
+unfolding run_by
+turn_then seed shown stop n t input g =
+    let s = answered (step_by seed t g) (after (offers input) g).guest in
+    ap (first (offers input ++ step_by seed t g ∷ [])) (after_answer seed s.reply shown stop n t (left input g) s.guest)
 
 -- what a turn of hart h made of a guest: the guest that the byte left, the one that the step left, its answer, and how the
 -- turns end with it
-pub record TurnMade (stop : Bool) (t h : ℕ) (input kept : List ℕ) (now fed stepped : GuestState) (r : BoardReply) (told : Option Fault) (end : Option Ended) : Type 0 where
-  pub hart : h ≡ t % length now.guest.board.harts
+pub record TurnMade (seed : Option ℕ) (stop : Bool) (t h : ℕ) (input kept : List ℕ) (now fed stepped : GuestState) (r : BoardReply) (told : Option Fault) (end : Option Ended) : Type 0 where
+  pub hart : h ≡ drawn seed t % length now.guest.board.harts
   pub offered : IsAfter (offers input) now fed
   pub fewer : kept ≡ left input now.guest
   pub made : IsAfter (Step h ∷ []) fed stepped
   pub said : r ≡ (answered (Step h) fed.guest).reply
   pub ends : end ≡ ends_turns r told stop
 
-turn_whole : {stop : Bool} {t h : ℕ} {input kept : List ℕ} {now fed stepped : GuestState} {r : BoardReply} {told : Option Fault} {end : Option Ended} (n : ℕ) → TurnMade stop t h input kept now fed stepped r told end
-    → run_from (suc n) t input now.guest ≡ first (turn_events h input) (follows end n (t + 1) kept stepped.guest)
-turn_whole {stop} {t} {h} {input} {kept} {now} {fed} {stepped} {r} {told} {end} n turn =
+turn_whole : {seed : Option ℕ} {stop : Bool} {t h : ℕ} {input kept : List ℕ} {now fed stepped : GuestState} {r : BoardReply} {told : Option Fault} {end : Option Ended} (n : ℕ) → TurnMade seed stop t h input kept now fed stepped r told end
+    → run_by seed (suc n) t input now.guest ≡ first (turn_events h input) (follows seed end n (t + 1) kept stepped.guest)
+turn_whole {seed} {stop} {t} {h} {input} {kept} {now} {fed} {stepped} {r} {told} {end} n turn =
     let g = now.guest in
     let f = (after (offers input) g).guest in
     let one : stepped.guest ≡ (answered (Step h) fed.guest).guest = turn.made.guest ∙ ap (λ (x : After). x.guest) (after_one (Step h) fed.guest) in
-    turn_then told stop n t input g
-    ∙ ap (λ (j : ℕ). first (turn_events j input) (follows (ends_turns (answered (Step j) f).reply told stop) n (t + 1) (left input g) (answered (Step j) f).guest)) (sym turn.hart)
-    ∙ ap (λ (x : Guest). first (turn_events h input) (follows (ends_turns (answered (Step h) x).reply told stop) n (t + 1) (left input g) (answered (Step h) x).guest)) (sym turn.offered.guest)
-    ∙ ap (λ (x : Guest). first (turn_events h input) (follows (ends_turns (answered (Step h) fed.guest).reply told stop) n (t + 1) (left input g) x)) (sym one)
-    ∙ ap (λ (x : BoardReply). first (turn_events h input) (follows (ends_turns x told stop) n (t + 1) (left input g) stepped.guest)) (sym turn.said)
-    ∙ ap (λ (x : Option Ended). first (turn_events h input) (follows x n (t + 1) (left input g) stepped.guest)) (sym turn.ends)
-    ∙ ap (λ (l : List ℕ). first (turn_events h input) (follows end n (t + 1) l stepped.guest)) (sym turn.fewer)
+    turn_then seed told stop n t input g
+    ∙ ap (λ (j : ℕ). first (turn_events j input) (follows seed (ends_turns (answered (Step j) f).reply told stop) n (t + 1) (left input g) (answered (Step j) f).guest)) (sym turn.hart)
+    ∙ ap (λ (x : Guest). first (turn_events h input) (follows seed (ends_turns (answered (Step h) x).reply told stop) n (t + 1) (left input g) (answered (Step h) x).guest)) (sym turn.offered.guest)
+    ∙ ap (λ (x : Guest). first (turn_events h input) (follows seed (ends_turns (answered (Step h) fed.guest).reply told stop) n (t + 1) (left input g) x)) (sym one)
+    ∙ ap (λ (x : BoardReply). first (turn_events h input) (follows seed (ends_turns x told stop) n (t + 1) (left input g) stepped.guest)) (sym turn.said)
+    ∙ ap (λ (x : Option Ended). first (turn_events h input) (follows seed x n (t + 1) (left input g) stepped.guest)) (sym turn.ends)
+    ∙ ap (λ (l : List ℕ). first (turn_events h input) (follows seed end n (t + 1) l stepped.guest)) (sym turn.fewer)
 
 -- ---- the first fault among steps
 
@@ -327,9 +331,9 @@ some_line range n ts t us size traced =
 
 -- the turns so far: their events; that each longer run begins with them; the bytes that they were answered; the first
 -- fault that they show; what is known of each hart's latest step; how often each word ran; and the lines of their steps
-pub record Turned (stop : Bool) (range : Option (ℕ × ℕ)) (input : List ℕ) (start now : GuestState) (turn : ℕ) (end : Option Ended) (kept : List ℕ) (latest : List (Option Fault)) (counts : List ℕ) (held : List ℕ) (before written trace_before traced : Option (List ℕ)) : Type 0 where
+pub record Turned (seed : Option ℕ) (stop : Bool) (range : Option (ℕ × ℕ)) (input : List ℕ) (start now : GuestState) (turn : ℕ) (end : Option Ended) (kept : List ℕ) (latest : List (Option Fault)) (counts : List ℕ) (held : List ℕ) (before written trace_before traced : Option (List ℕ)) : Type 0 where
   pub made : List BoardEvent
-  pub whole : (n : ℕ) → run_from (turn + n) 0 input start.guest ≡ first made (rest_after end n turn kept now.guest)
+  pub whole : (n : ℕ) → run_by seed (turn + n) 0 input start.guest ≡ first made (rest_after seed end n turn kept now.guest)
   pub so_far : IsAfter made start now
   pub text : GoesOut (after made start.guest).bytes [] held before written
   pub earlier : List Taken
@@ -340,13 +344,13 @@ pub record Turned (stop : Bool) (range : Option (ℕ × ℕ)) (input : List ℕ)
   pub counted : AreRuns counts (steps_in made start.guest)
   pub lines : Appends trace_before traced (concat (lines_from range 0 (steps_in made start.guest)))
 
-pub none_turned : (stop : Bool) (range : Option (ℕ × ℕ)) (input : List ℕ) (start : GuestState) (latest : List (Option Fault)) (counts : List ℕ) (before trace_before : Option (List ℕ)) → latest ≡ replicate 8 None → AreRuns counts []
-    → Turned stop range input start start 0 None input latest counts [] before before trace_before trace_before
-none_turned stop range input start latest counts before trace_before e zeros =
+pub none_turned : (seed : Option ℕ) (stop : Bool) (range : Option (ℕ × ℕ)) (input : List ℕ) (start : GuestState) (latest : List (Option Fault)) (counts : List ℕ) (before trace_before : Option (List ℕ)) → latest ≡ replicate 8 None → AreRuns counts []
+    → Turned seed stop range input start start 0 None input latest counts [] before before trace_before trace_before
+none_turned seed stop range input start latest counts before trace_before e zeros =
     let no_steps = sym (steps_none start.guest) in
     record {
       made = [];
-      whole = λ n. (let same : 0 + n ≡ n = omega arith in ap (λ k. run_from k 0 input start.guest) same);
+      whole = λ n. (let same : 0 + n ≡ n = omega arith in ap (λ k. run_by seed k 0 input start.guest) same);
       so_far = is_after_none start;
       text = subst (λ (l : List ℕ). GoesOut l [] [] before before) (ap (λ (x : After). x.bytes) (sym (after_none start.guest))) (stays [] before);
       earlier = [];
@@ -365,14 +369,14 @@ first_three a b c r =
     ap (λ (l : List BoardEvent). record r { events = l }) (ap (λ (l : List BoardEvent). a ++ l) (sym (append_assoc b c r.events)) ∙ sym (append_assoc a (b ++ c) r.events))
 
 -- a turn after others: its events, and what is taken after it
-pub turned_more : {stop : Bool} {range : Option (ℕ × ℕ)} {input : List ℕ} {start now fed stepped : GuestState} {turn h pc : ℕ} {end : Option Ended} {kept next : List ℕ} {latest noted : List (Option Fault)} {counts tallied : List ℕ} {held left_held : List ℕ} {before written out trace_before traced trace_after : Option (List ℕ)} {r : BoardReply} {told : Option Fault} (new : GuestState)
-    → h < 8 → turn < 2 ^ 32 - 1 → Turned stop range input start now turn None kept latest counts held before written trace_before traced
-    → TurnMade stop turn h kept next now fed stepped r told end → tallied ≡ noted_step pc r counts → pc ≡ pc_of h fed.guest → told ≡ shown r (get_or latest h None)
+pub turned_more : {seed : Option ℕ} {stop : Bool} {range : Option (ℕ × ℕ)} {input : List ℕ} {start now fed stepped : GuestState} {turn h pc : ℕ} {end : Option Ended} {kept next : List ℕ} {latest noted : List (Option Fault)} {counts tallied : List ℕ} {held left_held : List ℕ} {before written out trace_before traced trace_after : Option (List ℕ)} {r : BoardReply} {told : Option Fault} (new : GuestState)
+    → h < 8 → turn < 2 ^ 32 - 1 → Turned seed stop range input start now turn None kept latest counts held before written trace_before traced
+    → TurnMade seed stop turn h kept next now fed stepped r told end → tallied ≡ noted_step pc r counts → pc ≡ pc_of h fed.guest → told ≡ shown r (get_or latest h None)
     → noted ≡ slice_set latest h (option_map (fault_at h pc stepped.guest) (cause_of r))
     → Appends traced trace_after (concat (lines_from range turn (taken_by h fed.guest ∷ [])))
     → IsAfter (between end (turn + 1) stepped.guest) stepped new → GoesOut (after (between end (turn + 1) stepped.guest) stepped.guest).bytes held left_held written out
-    → Turned stop range input start new (turn + 1) end next noted tallied left_held before out trace_before trace_after
-turned_more {stop} {range} {input} {start} {now} {fed} {stepped} {turn} {h} {pc} {end} {kept} {next} {latest} {noted} {counts} {tallied} {held} {left_held} {before} {written} {out} {trace_before} {traced} {trace_after} {r} {told} new below few so_far this tally at told_is noted_this line drained text =
+    → Turned seed stop range input start new (turn + 1) end next noted tallied left_held before out trace_before trace_after
+turned_more {seed} {stop} {range} {input} {start} {now} {fed} {stepped} {turn} {h} {pc} {end} {kept} {next} {latest} {noted} {counts} {tallied} {held} {left_held} {before} {written} {out} {trace_before} {traced} {trace_after} {r} {told} new below few so_far this tally at told_is noted_this line drained text =
     let g = start.guest in
     let ts = steps_in so_far.made g in
     let t = taken_by h fed.guest in
@@ -397,9 +401,9 @@ turned_more {stop} {range} {input} {start} {now} {fed} {stepped} {turn} {h} {pc}
     record {
       made = so_far.made ++ (es ++ bs);
       whole = λ n. (let more : turn + 1 + n ≡ turn + suc n = omega arith in
-          ap (λ k. run_from k 0 input g) more ∙ so_far.whole (suc n) ∙ ap (first so_far.made) (turn_whole n this)
-          ∙ first_three so_far.made es bs (rest_after end n (turn + 1) next (after bs stepped.guest).guest)
-          ∙ ap (λ (x : Guest). first (so_far.made ++ (es ++ bs)) (rest_after end n (turn + 1) next x)) (sym drained.guest));
+          ap (λ k. run_by seed k 0 input g) more ∙ so_far.whole (suc n) ∙ ap (first so_far.made) (turn_whole n this)
+          ∙ first_three so_far.made es bs (rest_after seed end n (turn + 1) next (after bs stepped.guest).guest)
+          ∙ ap (λ (x : Guest). first (so_far.made ++ (es ++ bs)) (rest_after seed end n (turn + 1) next x)) (sym drained.guest));
       so_far = is_after_both so_far.made (es ++ bs) start now new so_far.so_far all;
       text = subst (λ (l : List ℕ). GoesOut l [] left_held before out) (sym bytes_all) (out_more so_far.text text);
       earlier = t ∷ so_far.earlier;
@@ -425,19 +429,19 @@ turned_more {stop} {range} {input} {start} {now} {fed} {stepped} {turn} {h} {pc}
 -- ---- the whole run
 
 -- the steps of a longer run are those so far and those of the rest
-steps_whole : {stop : Bool} {range : Option (ℕ × ℕ)} {input : List ℕ} {start now : GuestState} {turn : ℕ} {end : Option Ended} {kept : List ℕ} {latest : List (Option Fault)} {counts : List ℕ} {held : List ℕ} {before written trace_before traced : Option (List ℕ)} (n : ℕ) (so_far : Turned stop range input start now turn end kept latest counts held before written trace_before traced)
-    → steps_of_run (turn + n) input start.guest ≡ steps_in so_far.made start.guest ++ steps_in (rest_after end n turn kept now.guest).events now.guest
-steps_whole {stop} {range} {input} {start} {now} {turn} {end} {kept} {latest} {counts} {held} {before} {written} {trace_before} {traced} n so_far =
-    let rest = rest_after end n turn kept now.guest in
+steps_whole : {seed : Option ℕ} {stop : Bool} {range : Option (ℕ × ℕ)} {input : List ℕ} {start now : GuestState} {turn : ℕ} {end : Option Ended} {kept : List ℕ} {latest : List (Option Fault)} {counts : List ℕ} {held : List ℕ} {before written trace_before traced : Option (List ℕ)} (n : ℕ) (so_far : Turned seed stop range input start now turn end kept latest counts held before written trace_before traced)
+    → steps_of_run seed (turn + n) input start.guest ≡ steps_in so_far.made start.guest ++ steps_in (rest_after seed end n turn kept now.guest).events now.guest
+steps_whole {seed} {stop} {range} {input} {start} {now} {turn} {end} {kept} {latest} {counts} {held} {before} {written} {trace_before} {traced} n so_far =
+    let rest = rest_after seed end n turn kept now.guest in
     ap (λ (r : Run). steps_in r.events start.guest) (so_far.whole n) ∙ steps_both so_far.made rest.events start.guest
     ∙ ap (λ (x : Guest). steps_in so_far.made start.guest ++ steps_in rest.events x) (sym so_far.so_far.guest)
 
-progress : {stop : Bool} {range : Option (ℕ × ℕ)} {input : List ℕ} {start now : GuestState} {turn : ℕ} {end : Option Ended} {kept : List ℕ} {latest : List (Option Fault)} {counts : List ℕ} {held : List ℕ} {before written trace_before traced : Option (List ℕ)} (m n : ℕ) → m ≡ turn + n → Turned stop range input start now turn end kept latest counts held before written trace_before traced
-    → Progress (run_from m 0 input start.guest).events (rest_after end n turn kept now.guest).events start now [] held before written
-progress {stop} {range} {input} {start} {now} {turn} {end} {kept} {latest} {counts} {held} {before} {written} {trace_before} {traced} m n e so_far =
+progress : {seed : Option ℕ} {stop : Bool} {range : Option (ℕ × ℕ)} {input : List ℕ} {start now : GuestState} {turn : ℕ} {end : Option Ended} {kept : List ℕ} {latest : List (Option Fault)} {counts : List ℕ} {held : List ℕ} {before written trace_before traced : Option (List ℕ)} (m n : ℕ) → m ≡ turn + n → Turned seed stop range input start now turn end kept latest counts held before written trace_before traced
+    → Progress (run_by seed m 0 input start.guest).events (rest_after seed end n turn kept now.guest).events start now [] held before written
+progress {seed} {stop} {range} {input} {start} {now} {turn} {end} {kept} {latest} {counts} {held} {before} {written} {trace_before} {traced} m n e so_far =
     record {
       made = so_far.made;
-      whole = sym (ap (λ (r : Run). r.events) (ap (λ k. run_from k 0 input start.guest) e ∙ so_far.whole n));
+      whole = sym (ap (λ (r : Run). r.events) (ap (λ k. run_by seed k 0 input start.guest) e ∙ so_far.whole n));
       so_far = so_far.so_far;
       text = so_far.text;
     }
@@ -455,64 +459,64 @@ above : (m turn : ℕ) → turn < m → IsAbove m turn
 above m turn below = record { more = m - turn - 1; is = omega (arith, below) }
 
 -- a run makes one turn more after turns that did not end it
-more_turns : {stop : Bool} {range : Option (ℕ × ℕ)} {input : List ℕ} {start now : GuestState} {turn : ℕ} {kept : List ℕ} {latest : List (Option Fault)} {counts : List ℕ} {held : List ℕ} {before written trace_before traced : Option (List ℕ)} (steps : ℕ) → turn < steps → Turned stop range input start now turn None kept latest counts held before written trace_before traced
-    → IsAbove (turns_of stop steps input start.guest) turn
-more_turns {stop} {range} {input} {start} {now} {turn} {kept} {latest} {counts} {held} {before} {written} {trace_before} {traced} steps below so_far =
+more_turns : {seed : Option ℕ} {stop : Bool} {range : Option (ℕ × ℕ)} {input : List ℕ} {start now : GuestState} {turn : ℕ} {kept : List ℕ} {latest : List (Option Fault)} {counts : List ℕ} {held : List ℕ} {before written trace_before traced : Option (List ℕ)} (steps : ℕ) → turn < steps → Turned seed stop range input start now turn None kept latest counts held before written trace_before traced
+    → IsAbove (turns_of seed stop steps input start.guest) turn
+more_turns {seed} {stop} {range} {input} {start} {now} {turn} {kept} {latest} {counts} {held} {before} {written} {trace_before} {traced} steps below so_far =
     let all : IsAbove steps turn = above steps turn below in
-    let us = steps_in (run_from (suc all.more) turn kept now.guest).events now.guest in
-    let found : fault_among stop [] (steps_of_run steps input start.guest) ≡ fault_among stop so_far.earlier us =
-    ap (λ k. fault_among stop [] (steps_of_run k input start.guest)) all.is ∙ ap (fault_among stop []) (steps_whole (suc all.more) so_far) ∙ so_far.found us in
+    let us = steps_in (run_by seed (suc all.more) turn kept now.guest).events now.guest in
+    let found : fault_among stop [] (steps_of_run seed steps input start.guest) ≡ fault_among stop so_far.earlier us =
+    ap (λ k. fault_among stop [] (steps_of_run seed k input start.guest)) all.is ∙ ap (fault_among stop []) (steps_whole (suc all.more) so_far) ∙ so_far.found us in
     let later : IsLater turn (fault_among stop so_far.earlier us) = subst (λ k. IsLater k (fault_among stop so_far.earlier us)) so_far.count (fault_later stop so_far.earlier us) in
-    above (turns_of stop steps input start.guest) turn
-    (turns_above (fault_among stop [] (steps_of_run steps input start.guest)) turn steps below (subst (IsLater turn) (sym found) later))
+    above (turns_of seed stop steps input start.guest) turn
+    (turns_above (fault_among stop [] (steps_of_run seed steps input start.guest)) turn steps below (subst (IsLater turn) (sym found) later))
 
 -- the line of a step could not be written
-pub line_failed : {stop : Bool} {range : Option (ℕ × ℕ)} {input : List ℕ} {start now : GuestState} {turn : ℕ} {kept : List ℕ} {latest : List (Option Fault)} {counts : List ℕ} {held : List ℕ} {before written trace_before traced : Option (List ℕ)} (h steps : ℕ) (next : List ℕ) (fed stepped : GuestState) → turn < steps → Turned stop range input start now turn None kept latest counts held before written trace_before traced
-    → h ≡ turn % length now.guest.board.harts → IsAfter (offers kept) now fed → next ≡ left kept now.guest → IsAfter (Step h ∷ []) fed stepped → is_traced range turn ≡ true
-    → BreaksOff (run_with stop range steps input start.guest) (run_from (turns_of stop steps input start.guest) 0 input start.guest).events start stepped
-line_failed {stop} {range} {input} {start} {now} {turn} {kept} {latest} {counts} {held} {before} {written} {trace_before} {traced} h steps next fed stepped below so_far hart offered fewer made is_so =
+pub line_failed : {seed : Option ℕ} {stop : Bool} {range : Option (ℕ × ℕ)} {input : List ℕ} {start now : GuestState} {turn : ℕ} {kept : List ℕ} {latest : List (Option Fault)} {counts : List ℕ} {held : List ℕ} {before written trace_before traced : Option (List ℕ)} (h steps : ℕ) (next : List ℕ) (fed stepped : GuestState) → turn < steps → Turned seed stop range input start now turn None kept latest counts held before written trace_before traced
+    → h ≡ drawn seed turn % length now.guest.board.harts → IsAfter (offers kept) now fed → next ≡ left kept now.guest → IsAfter (Step h ∷ []) fed stepped → is_traced range turn ≡ true
+    → BreaksOff (run_with seed stop range steps input start.guest) (run_by seed (turns_of seed stop steps input start.guest) 0 input start.guest).events start stepped
+line_failed {seed} {stop} {range} {input} {start} {now} {turn} {kept} {latest} {counts} {held} {before} {written} {trace_before} {traced} h steps next fed stepped below so_far hart offered fewer made is_so =
     let g = start.guest in
     let r = (answered (Step h) fed.guest).reply in
     let end = ends_turns r None stop in
-    let this : TurnMade stop turn h kept next now fed stepped r None end = record { hart = hart; offered = offered; fewer = fewer; made = made; said = refl; ends = refl } in
-    let m = turns_of stop steps input g in
+    let this : TurnMade seed stop turn h kept next now fed stepped r None end = record { hart = hart; offered = offered; fewer = fewer; made = made; said = refl; ends = refl } in
+    let m = turns_of seed stop steps input g in
     let more = more_turns steps below so_far in
     let n = more.more in
     let es = turn_events h kept in
-    let rest = run_from (suc n) turn kept now.guest in
-    let others = follows end n (turn + 1) next stepped.guest in
+    let rest = run_by seed (suc n) turn kept now.guest in
+    let others = follows seed end n (turn + 1) next stepped.guest in
     let whole = turn_whole n this in
     let there = turn_left h kept now fed stepped offered made in
     let ts = steps_in so_far.made g in
     let us = steps_in others.events stepped.guest in
-    let steps_all : steps_of_run m input g ≡ ts ++ taken_by h fed.guest ∷ us =
-    ap (λ k. steps_of_run k input g) more.is ∙ steps_whole (suc n) so_far
+    let steps_all : steps_of_run seed m input g ≡ ts ++ taken_by h fed.guest ∷ us =
+    ap (λ k. steps_of_run seed k input g) more.is ∙ steps_whole (suc n) so_far
     ∙ ap (λ (x : Run). ts ++ steps_in x.events now.guest) whole
     ∙ ap (λ (l : List Taken). ts ++ l) (steps_both es others.events now.guest
     ∙ ap (λ (x : Guest). steps_in es now.guest ++ steps_in others.events x) (sym there.guest)
     ∙ ap (λ (l : List Taken). l ++ us) (steps_turn h kept now fed offered)) in
-    let lines_all : trace_of range (steps_of_run m input g) ≡ lines_from range 0 (ts ++ taken_by h fed.guest ∷ us) =
-    trace_is range (steps_of_run m input g) ∙ ap (lines_from range 0) steps_all in
+    let lines_all : trace_of range (steps_of_run seed m input g) ≡ lines_from range 0 (ts ++ taken_by h fed.guest ∷ us) =
+    trace_is range (steps_of_run seed m input g) ∙ ap (lines_from range 0) steps_all in
     record {
       some = inr (subst (λ (l : List (List ℕ)). 0 < length l) (sym lines_all) (some_line range turn ts (taken_by h fed.guest) us so_far.taken is_so));
       part = none_made (goes_quietly rest.events others.events es now stepped held written (progress m (suc n) more.is so_far) (ap (λ (x : Run). x.events) whole) there (turn_quiet h kept now fed offered));
     }
 
 -- what the guest sent could not be written after a turn
-pub drain_failed : {stop : Bool} {range : Option (ℕ × ℕ)} {input : List ℕ} {start now fed stepped : GuestState} {turn h : ℕ} {end : Option Ended} {kept next : List ℕ} {latest : List (Option Fault)} {counts : List ℕ} {held : List ℕ} {before written trace_before traced : Option (List ℕ)} {r : BoardReply} {told : Option Fault} (steps : ℕ) (new : GuestState) → turn < steps → Turned stop range input start now turn None kept latest counts held before written trace_before traced
-    → TurnMade stop turn h kept next now fed stepped r told end → IsPartWay (between end (turn + 1) stepped.guest) stepped new → 0 < length (held ++ (after (between end (turn + 1) stepped.guest) stepped.guest).bytes)
-    → BreaksOff (run_with stop range steps input start.guest) (run_from (turns_of stop steps input start.guest) 0 input start.guest).events start new
-drain_failed {stop} {range} {input} {start} {now} {fed} {stepped} {turn} {h} {end} {kept} {next} {latest} {counts} {held} {before} {written} {trace_before} {traced} {r} {told} steps new below so_far this part some =
-    let m = turns_of stop steps input start.guest in
+pub drain_failed : {seed : Option ℕ} {stop : Bool} {range : Option (ℕ × ℕ)} {input : List ℕ} {start now fed stepped : GuestState} {turn h : ℕ} {end : Option Ended} {kept next : List ℕ} {latest : List (Option Fault)} {counts : List ℕ} {held : List ℕ} {before written trace_before traced : Option (List ℕ)} {r : BoardReply} {told : Option Fault} (steps : ℕ) (new : GuestState) → turn < steps → Turned seed stop range input start now turn None kept latest counts held before written trace_before traced
+    → TurnMade seed stop turn h kept next now fed stepped r told end → IsPartWay (between end (turn + 1) stepped.guest) stepped new → 0 < length (held ++ (after (between end (turn + 1) stepped.guest) stepped.guest).bytes)
+    → BreaksOff (run_with seed stop range steps input start.guest) (run_by seed (turns_of seed stop steps input start.guest) 0 input start.guest).events start new
+drain_failed {seed} {stop} {range} {input} {start} {now} {fed} {stepped} {turn} {h} {end} {kept} {next} {latest} {counts} {held} {before} {written} {trace_before} {traced} {r} {told} steps new below so_far this part some =
+    let m = turns_of seed stop steps input start.guest in
     let more = more_turns steps below so_far in
     let n = more.more in
     let es = turn_events h kept in
     let bs = between end (turn + 1) stepped.guest in
-    let rest = run_from (suc n) turn kept now.guest in
-    let others = follows end n (turn + 1) next stepped.guest in
-    let last = rest_after end n (turn + 1) next (after bs stepped.guest).guest in
+    let rest = run_by seed (suc n) turn kept now.guest in
+    let others = follows seed end n (turn + 1) next stepped.guest in
+    let last = rest_after seed end n (turn + 1) next (after bs stepped.guest).guest in
     let there = turn_left h kept now fed stepped this.offered this.made in
-    let all : Progress (run_from m 0 input start.guest).events others.events start stepped [] held before written =
+    let all : Progress (run_by seed m 0 input start.guest).events others.events start stepped [] held before written =
     goes_quietly rest.events others.events es now stepped held written (progress m (suc n) more.is so_far) (ap (λ (x : Run). x.events) (turn_whole n this)) there (turn_quiet h kept now fed this.offered) in
     record {
       some = inl (some_bytes others.events last.events bs stepped written all refl some);
@@ -529,37 +533,37 @@ plain_end (Some (ended.HaltedWith s)) = ended.HaltedWith s
 plain_end (Some ended.StepsSpent) = ended.StepsSpent
 
 -- the run makes no turn more, and its last drains follow
-pub record Closes (stop : Bool) (input : List ℕ) (start now : GuestState) (steps turn : ℕ) (end : Option Ended) (kept : List ℕ) : Type 0 where
+pub record Closes (seed : Option ℕ) (stop : Bool) (input : List ℕ) (start now : GuestState) (steps turn : ℕ) (end : Option Ended) (kept : List ℕ) : Type 0 where
   pub more : ℕ
-  pub is : turns_of stop steps input start.guest ≡ turn + more
-  pub last : rest_after end more turn kept now.guest ≡ record { events = drains now.guest; ended = plain_end end }
-  pub told : unwrap_or end ended.StepsSpent ≡ end_at (fault_among stop [] (steps_of_run steps input start.guest)) (plain_end end)
+  pub is : turns_of seed stop steps input start.guest ≡ turn + more
+  pub last : rest_after seed end more turn kept now.guest ≡ record { events = drains now.guest; ended = plain_end end }
+  pub told : unwrap_or end ended.StepsSpent ≡ end_at (fault_among stop [] (steps_of_run seed steps input start.guest)) (plain_end end)
 
-pub no_turns_left : (t : ℕ) (input : List ℕ) (g : Guest) → run_from 0 t input g ≡ record { events = drains g; ended = ended.StepsSpent }
-unfolding run_from
-no_turns_left t input g = refl
+pub no_turns_left : (seed : Option ℕ) (t : ℕ) (input : List ℕ) (g : Guest) → run_by seed 0 t input g ≡ record { events = drains g; ended = ended.StepsSpent }
+unfolding run_by
+no_turns_left seed t input g = refl
 
 -- no step follows
-none_after : {stop : Bool} {range : Option (ℕ × ℕ)} {input : List ℕ} {start now : GuestState} {turn : ℕ} {end : Option Ended} {kept : List ℕ} {latest : List (Option Fault)} {counts : List ℕ} {held : List ℕ} {before written trace_before traced : Option (List ℕ)} (steps n : ℕ) (e : Ended) → steps ≡ turn + n → rest_after end n turn kept now.guest ≡ record { events = drains now.guest; ended = e }
-    → Turned stop range input start now turn end kept latest counts held before written trace_before traced
-    → fault_among stop [] (steps_of_run steps input start.guest) ≡ found_at end turn None
-none_after {stop} {range} {input} {start} {now} {turn} {end} {kept} {latest} {counts} {held} {before} {written} {trace_before} {traced} steps n e all last so_far =
-    let us = steps_in (rest_after end n turn kept now.guest).events now.guest in
+none_after : {seed : Option ℕ} {stop : Bool} {range : Option (ℕ × ℕ)} {input : List ℕ} {start now : GuestState} {turn : ℕ} {end : Option Ended} {kept : List ℕ} {latest : List (Option Fault)} {counts : List ℕ} {held : List ℕ} {before written trace_before traced : Option (List ℕ)} (steps n : ℕ) (e : Ended) → steps ≡ turn + n → rest_after seed end n turn kept now.guest ≡ record { events = drains now.guest; ended = e }
+    → Turned seed stop range input start now turn end kept latest counts held before written trace_before traced
+    → fault_among stop [] (steps_of_run seed steps input start.guest) ≡ found_at end turn None
+none_after {seed} {stop} {range} {input} {start} {now} {turn} {end} {kept} {latest} {counts} {held} {before} {written} {trace_before} {traced} steps n e all last so_far =
+    let us = steps_in (rest_after seed end n turn kept now.guest).events now.guest in
     let none : us ≡ [] = ap (λ (r : Run). steps_in r.events now.guest) last ∙ steps_drains now.guest in
-    ap (λ k. fault_among stop [] (steps_of_run k input start.guest)) all ∙ ap (fault_among stop []) (steps_whole n so_far) ∙ so_far.found us
+    ap (λ k. fault_among stop [] (steps_of_run seed k input start.guest)) all ∙ ap (fault_among stop []) (steps_whole n so_far) ∙ so_far.found us
     ∙ ap (λ (l : List Taken). found_at end turn (fault_among stop so_far.earlier l)) none ∙ ap (found_at end turn) (fault_none stop so_far.earlier)
 
-pub closes : {stop : Bool} {range : Option (ℕ × ℕ)} {input : List ℕ} {start now : GuestState} {turn : ℕ} {kept : List ℕ} {latest : List (Option Fault)} {counts : List ℕ} {held : List ℕ} {before written trace_before traced : Option (List ℕ)} (steps : ℕ) (end : Option Ended) → turn ≤ steps → (end ≡ None → steps ≤ turn)
-    → Turned stop range input start now turn end kept latest counts held before written trace_before traced → Closes stop input start now steps turn end kept
-closes {stop} {range} {input} {start} {now} {turn} {kept} {latest} {counts} {held} {before} {written} {trace_before} {traced} steps None within spent so_far =
-    let none = none_after steps 0 ended.StepsSpent (omega (arith, within, spent refl)) (no_turns_left turn kept now.guest) so_far in
+pub closes : {seed : Option ℕ} {stop : Bool} {range : Option (ℕ × ℕ)} {input : List ℕ} {start now : GuestState} {turn : ℕ} {kept : List ℕ} {latest : List (Option Fault)} {counts : List ℕ} {held : List ℕ} {before written trace_before traced : Option (List ℕ)} (steps : ℕ) (end : Option Ended) → turn ≤ steps → (end ≡ None → steps ≤ turn)
+    → Turned seed stop range input start now turn end kept latest counts held before written trace_before traced → Closes seed stop input start now steps turn end kept
+closes {seed} {stop} {range} {input} {start} {now} {turn} {kept} {latest} {counts} {held} {before} {written} {trace_before} {traced} steps None within spent so_far =
+    let none = none_after steps 0 ended.StepsSpent (omega (arith, within, spent refl)) (no_turns_left seed turn kept now.guest) so_far in
     record {
       more = 0;
       is = ap (λ x. turns_until x steps) none ∙ omega (arith, within, spent refl);
-      last = no_turns_left turn kept now.guest;
+      last = no_turns_left seed turn kept now.guest;
       told = ap (λ x. end_at x ended.StepsSpent) (sym none);
     }
-closes {stop} {range} {input} {start} {now} {turn} {kept} {latest} {counts} {held} {before} {written} {trace_before} {traced} steps (Some (ended.HaltedWith s)) within spent so_far =
+closes {seed} {stop} {range} {input} {start} {now} {turn} {kept} {latest} {counts} {held} {before} {written} {trace_before} {traced} steps (Some (ended.HaltedWith s)) within spent so_far =
     let none = none_after steps (steps - turn) (ended.HaltedWith s) (omega (arith, within)) refl so_far in
     record {
       more = steps - turn;
@@ -567,7 +571,7 @@ closes {stop} {range} {input} {start} {now} {turn} {kept} {latest} {counts} {hel
       last = refl;
       told = ap (λ x. end_at x (ended.HaltedWith s)) (sym none);
     }
-closes {stop} {range} {input} {start} {now} {turn} {kept} {latest} {counts} {held} {before} {written} {trace_before} {traced} steps (Some ended.StepsSpent) within spent so_far =
+closes {seed} {stop} {range} {input} {start} {now} {turn} {kept} {latest} {counts} {held} {before} {written} {trace_before} {traced} steps (Some ended.StepsSpent) within spent so_far =
     let none = none_after steps (steps - turn) ended.StepsSpent (omega (arith, within)) refl so_far in
     record {
       more = steps - turn;
@@ -575,71 +579,71 @@ closes {stop} {range} {input} {start} {now} {turn} {kept} {latest} {counts} {hel
       last = refl;
       told = ap (λ x. end_at x ended.StepsSpent) (sym none);
     }
-closes {stop} {range} {input} {start} {now} {turn} {kept} {latest} {counts} {held} {before} {written} {trace_before} {traced} steps (Some (ended.Fault f)) within spent so_far =
+closes {seed} {stop} {range} {input} {start} {now} {turn} {kept} {latest} {counts} {held} {before} {written} {trace_before} {traced} steps (Some (ended.Fault f)) within spent so_far =
     let n = steps - turn in
     let all : steps ≡ turn + n = omega (arith, within) in
-    let us = steps_in (run_from n turn kept now.guest).events now.guest in
-    let found : fault_among stop [] (steps_of_run steps input start.guest) ≡ Some (record { steps = turn; fault = f }) =
-    ap (λ k. fault_among stop [] (steps_of_run k input start.guest)) all ∙ ap (fault_among stop []) (steps_whole n so_far) ∙ so_far.found us in
+    let us = steps_in (run_by seed n turn kept now.guest).events now.guest in
+    let found : fault_among stop [] (steps_of_run seed steps input start.guest) ≡ Some (record { steps = turn; fault = f }) =
+    ap (λ k. fault_among stop [] (steps_of_run seed k input start.guest)) all ∙ ap (fault_among stop []) (steps_whole n so_far) ∙ so_far.found us in
     record {
       more = 0;
       is = ap (λ x. turns_until x steps) found ∙ omega arith;
-      last = no_turns_left turn kept now.guest;
+      last = no_turns_left seed turn kept now.guest;
       told = ap (λ x. end_at x ended.StepsSpent) (sym found);
     }
 
 -- the steps of a run that made these turns and no more
-steps_closed : {stop : Bool} {range : Option (ℕ × ℕ)} {input : List ℕ} {start now : GuestState} {turn : ℕ} {kept : List ℕ} {latest : List (Option Fault)} {counts : List ℕ} {held : List ℕ} {before written trace_before traced : Option (List ℕ)} (steps : ℕ) (end : Option Ended) → turn ≤ steps → (end ≡ None → steps ≤ turn)
-    → (so_far : Turned stop range input start now turn end kept latest counts held before written trace_before traced)
-    → steps_of_run (turns_of stop steps input start.guest) input start.guest ≡ steps_in so_far.made start.guest
-steps_closed {stop} {range} {input} {start} {now} {turn} {kept} {latest} {counts} {held} {before} {written} {trace_before} {traced} steps end within spent so_far =
+steps_closed : {seed : Option ℕ} {stop : Bool} {range : Option (ℕ × ℕ)} {input : List ℕ} {start now : GuestState} {turn : ℕ} {kept : List ℕ} {latest : List (Option Fault)} {counts : List ℕ} {held : List ℕ} {before written trace_before traced : Option (List ℕ)} (steps : ℕ) (end : Option Ended) → turn ≤ steps → (end ≡ None → steps ≤ turn)
+    → (so_far : Turned seed stop range input start now turn end kept latest counts held before written trace_before traced)
+    → steps_of_run seed (turns_of seed stop steps input start.guest) input start.guest ≡ steps_in so_far.made start.guest
+steps_closed {seed} {stop} {range} {input} {start} {now} {turn} {kept} {latest} {counts} {held} {before} {written} {trace_before} {traced} steps end within spent so_far =
     let c = closes steps end within spent so_far in
     let ts = steps_in so_far.made start.guest in
-    ap (λ k. steps_of_run k input start.guest) c.is ∙ steps_whole c.more so_far
+    ap (λ k. steps_of_run seed k input start.guest) c.is ∙ steps_whole c.more so_far
     ∙ ap (λ (r : Run). ts ++ steps_in r.events now.guest) c.last
     ∙ ap (λ (l : List Taken). ts ++ l) (steps_drains now.guest) ∙ append-nil ts
 
 -- how often each word ran in a whole run
-pub run_counted : {stop : Bool} {range : Option (ℕ × ℕ)} {input : List ℕ} {start now : GuestState} {turn : ℕ} {kept : List ℕ} {latest : List (Option Fault)} {counts : List ℕ} {held : List ℕ} {before written trace_before traced : Option (List ℕ)} (steps : ℕ) (end : Option Ended) → turn ≤ steps → (end ≡ None → steps ≤ turn)
-    → Turned stop range input start now turn end kept latest counts held before written trace_before traced
-    → AreRuns counts (run_with stop range steps input start.guest).steps
-run_counted {stop} {range} {input} {start} {now} {turn} {kept} {latest} {counts} {held} {before} {written} {trace_before} {traced} steps end within spent so_far =
+pub run_counted : {seed : Option ℕ} {stop : Bool} {range : Option (ℕ × ℕ)} {input : List ℕ} {start now : GuestState} {turn : ℕ} {kept : List ℕ} {latest : List (Option Fault)} {counts : List ℕ} {held : List ℕ} {before written trace_before traced : Option (List ℕ)} (steps : ℕ) (end : Option Ended) → turn ≤ steps → (end ≡ None → steps ≤ turn)
+    → Turned seed stop range input start now turn end kept latest counts held before written trace_before traced
+    → AreRuns counts (run_with seed stop range steps input start.guest).steps
+run_counted {seed} {stop} {range} {input} {start} {now} {turn} {kept} {latest} {counts} {held} {before} {written} {trace_before} {traced} steps end within spent so_far =
     subst (AreRuns counts) (sym (steps_closed steps end within spent so_far)) so_far.counted
 
 -- the last drains were made, and all that was held was written
-pub run_closed : {stop : Bool} {range : Option (ℕ × ℕ)} {input : List ℕ} {start now new : GuestState} {turn : ℕ} {kept : List ℕ} {latest : List (Option Fault)} {counts : List ℕ} {held empty : List ℕ} {before written trace_before traced : Option (List ℕ)} (steps : ℕ) (end : Option Ended) (out : Option (List ℕ)) → turn ≤ steps → (end ≡ None → steps ≤ turn)
-    → Turned stop range input start now turn end kept latest counts held before written trace_before traced
+pub run_closed : {seed : Option ℕ} {stop : Bool} {range : Option (ℕ × ℕ)} {input : List ℕ} {start now new : GuestState} {turn : ℕ} {kept : List ℕ} {latest : List (Option Fault)} {counts : List ℕ} {held empty : List ℕ} {before written trace_before traced : Option (List ℕ)} (steps : ℕ) (end : Option Ended) (out : Option (List ℕ)) → turn ≤ steps → (end ≡ None → steps ≤ turn)
+    → Turned seed stop range input start now turn end kept latest counts held before written trace_before traced
     → IsAfter (drains now.guest) now new → GoesOut (after (drains now.guest) now.guest).bytes held empty written out → empty ≡ []
-    → HasRun (run_with stop range steps input start.guest) (unwrap_or end ended.StepsSpent) start new before out trace_before traced
-run_closed {stop} {range} {input} {start} {now} {new} {turn} {kept} {latest} {counts} {held} {empty} {before} {written} {trace_before} {traced} steps end out within spent so_far made text none =
+    → HasRun (run_with seed stop range steps input start.guest) (unwrap_or end ended.StepsSpent) start new before out trace_before traced
+run_closed {seed} {stop} {range} {input} {start} {now} {new} {turn} {kept} {latest} {counts} {held} {empty} {before} {written} {trace_before} {traced} steps end out within spent so_far made text none =
     let c = closes steps end within spent so_far in
     let g = start.guest in
-    let m = turns_of stop steps input g in
-    let rest = rest_after end c.more turn kept now.guest in
-    let whole : run_from m 0 input g ≡ first so_far.made rest = ap (λ k. run_from k 0 input g) c.is ∙ so_far.whole c.more in
-    let end_is : (run_from m 0 input g).ended ≡ plain_end end = ap (λ (r : Run). r.ended) (whole ∙ ap (first so_far.made) c.last) in
+    let m = turns_of seed stop steps input g in
+    let rest = rest_after seed end c.more turn kept now.guest in
+    let whole : run_by seed m 0 input g ≡ first so_far.made rest = ap (λ k. run_by seed k 0 input g) c.is ∙ so_far.whole c.more in
+    let end_is : (run_by seed m 0 input g).ended ≡ plain_end end = ap (λ (r : Run). r.ended) (whole ∙ ap (first so_far.made) c.last) in
     let ts = steps_in so_far.made g in
-    let steps_all : steps_of_run m input g ≡ ts = steps_closed steps end within spent so_far in
-    let lines_all : trace_of range (steps_of_run m input g) ≡ lines_from range 0 ts = trace_is range (steps_of_run m input g) ∙ ap (lines_from range 0) steps_all in
-    let done : Finished (run_from m 0 input g).events (plain_end end) rest.ended start new before out =
+    let steps_all : steps_of_run seed m input g ≡ ts = steps_closed steps end within spent so_far in
+    let lines_all : trace_of range (steps_of_run seed m input g) ≡ lines_from range 0 ts = trace_is range (steps_of_run seed m input g) ∙ ap (lines_from range 0) steps_all in
+    let done : Finished (run_by seed m 0 input g).events (plain_end end) rest.ended start new before out =
     finished rest.ended out (progress m c.more c.is so_far) refl c.last made text none in
     record {
       written = done.text;
       guest = done.made.guest;
       dirty = done.made.dirty;
-      ended = c.told ∙ ap (end_at (fault_among stop [] (steps_of_run steps input g))) (sym end_is);
+      ended = c.told ∙ ap (end_at (fault_among stop [] (steps_of_run seed steps input g))) (sym end_is);
       traced = subst (λ (l : List (List ℕ)). Appends trace_before traced (concat l)) (sym lines_all) so_far.lines;
     }
 
 -- what the guest sent could not be written at the end
-pub run_broken : {stop : Bool} {range : Option (ℕ × ℕ)} {input : List ℕ} {start now new : GuestState} {turn : ℕ} {kept : List ℕ} {latest : List (Option Fault)} {counts : List ℕ} {held : List ℕ} {before written trace_before traced : Option (List ℕ)} (steps : ℕ) (end : Option Ended) → turn ≤ steps → (end ≡ None → steps ≤ turn)
-    → Turned stop range input start now turn end kept latest counts held before written trace_before traced
+pub run_broken : {seed : Option ℕ} {stop : Bool} {range : Option (ℕ × ℕ)} {input : List ℕ} {start now new : GuestState} {turn : ℕ} {kept : List ℕ} {latest : List (Option Fault)} {counts : List ℕ} {held : List ℕ} {before written trace_before traced : Option (List ℕ)} (steps : ℕ) (end : Option Ended) → turn ≤ steps → (end ≡ None → steps ≤ turn)
+    → Turned seed stop range input start now turn end kept latest counts held before written trace_before traced
     → IsPartWay (drains now.guest) now new → 0 < length (held ++ (after (drains now.guest) now.guest).bytes)
-    → BreaksOff (run_with stop range steps input start.guest) (run_from (turns_of stop steps input start.guest) 0 input start.guest).events start new
-run_broken {stop} {range} {input} {start} {now} {new} {turn} {kept} {latest} {counts} {held} {before} {written} {trace_before} {traced} steps end within spent so_far part some =
+    → BreaksOff (run_with seed stop range steps input start.guest) (run_by seed (turns_of seed stop steps input start.guest) 0 input start.guest).events start new
+run_broken {seed} {stop} {range} {input} {start} {now} {new} {turn} {kept} {latest} {counts} {held} {before} {written} {trace_before} {traced} steps end within spent so_far part some =
     let c = closes steps end within spent so_far in
-    let m = turns_of stop steps input start.guest in
-    let rest = rest_after end c.more turn kept now.guest in
+    let m = turns_of seed stop steps input start.guest in
+    let rest = rest_after seed end c.more turn kept now.guest in
     let broken = broken_off (record { events = []; ended = plain_end end }) (progress m c.more c.is so_far) (last_drains now.guest (plain_end end) rest c.last) part some in
     record { some = inl broken.some; part = broken.part }
 
@@ -690,10 +694,10 @@ drains_between end turn g due = ap (λ b. cond b (drains g) []) (sym due)
 -- ---- the loop
 
 -- the hart of a turn is there
-pub turn_there : (turn harts : ℕ) (input : List ℕ) (now fed : GuestState) → harts ≡ length now.guest.board.harts → 0 < harts → IsAfter (offers input) now fed → turn % harts < length fed.guest.board.harts
-turn_there turn harts input now fed count some offered =
+pub turn_there : (hart harts : ℕ) (input : List ℕ) (now fed : GuestState) → harts ≡ length now.guest.board.harts → hart < harts → IsAfter (offers input) now fed → hart < length fed.guest.board.harts
+turn_there hart harts input now fed count below offered =
     let same : length fed.guest.board.harts ≡ harts = ap (λ (g : Guest). length g.board.harts) offered.guest ∙ (offer_quiet input now.guest).1 ∙ sym count in
-    rw same (mod_below turn harts some)
+    rw same below
 
 pub none_of : (end : Option Ended) (b : Bool) → is_some end ≡ not b → b ≡ true → end ≡ None
 none_of None b e so = refl
@@ -704,7 +708,7 @@ not_none None b e so none = let no : false ≡ true = e ∙ ap not so in cc
 not_none (Some end) b e so none = cc
 
 -- turns that did not end the run
-pub unended : {stop : Bool} {range : Option (ℕ × ℕ)} {input : List ℕ} {start now : GuestState} {turn : ℕ} {end : Option Ended} {kept : List ℕ} {latest : List (Option Fault)} {counts : List ℕ} {held : List ℕ} {before written trace_before traced : Option (List ℕ)} → end ≡ None
-    → Turned stop range input start now turn end kept latest counts held before written trace_before traced → Turned stop range input start now turn None kept latest counts held before written trace_before traced
-unended {stop} {range} {input} {start} {now} {turn} {end} {kept} {latest} {counts} {held} {before} {written} {trace_before} {traced} none so_far =
-    subst (λ (e : Option Ended). Turned stop range input start now turn e kept latest counts held before written trace_before traced) none so_far
+pub unended : {seed : Option ℕ} {stop : Bool} {range : Option (ℕ × ℕ)} {input : List ℕ} {start now : GuestState} {turn : ℕ} {end : Option Ended} {kept : List ℕ} {latest : List (Option Fault)} {counts : List ℕ} {held : List ℕ} {before written trace_before traced : Option (List ℕ)} → end ≡ None
+    → Turned seed stop range input start now turn end kept latest counts held before written trace_before traced → Turned seed stop range input start now turn None kept latest counts held before written trace_before traced
+unended {seed} {stop} {range} {input} {start} {now} {turn} {end} {kept} {latest} {counts} {held} {before} {written} {trace_before} {traced} none so_far =
+    subst (λ (e : Option Ended). Turned seed stop range input start now turn e kept latest counts held before written trace_before traced) none so_far

@@ -35,7 +35,8 @@ guest_of harts pages entry pieces =
 -- the run of the guest of an image that these arguments ask for, with this input
 abbrev pub run_of : RunArguments → (image : ℕ × List Piece) → (input : List ℕ) → Watched
 run_of a image input =
-    run_with a.stop_at_fault (traced_of a.trace) a.steps input (guest_of a.guest.harts a.guest.pages image.0 image.1)
+    run_with a.seed a.stop_at_fault (traced_of a.trace) a.steps input
+    (guest_of a.guest.harts a.guest.pages image.0 image.1)
 
 -- `halted S`, `steps spent`, or the text of a fault
 abbrev pub end_text : Ended → List ℕ

@@ -1,3 +1,4 @@
+pub mod Order
 pub mod Run
 pub mod Slices
 pub mod Taken
@@ -18,6 +19,7 @@ pub mod Command
 pub mod Assembled
 pub mod Refusals
 pub mod Ends
+pub mod Seeds
 pub mod Flushed
 pub mod FirstWorld
 pub mod ScriptRefusals

@@ -9,13 +9,13 @@ use Rattle.rvm_arguments.specs.declared.arguments.TraceArguments.{TraceArguments
 use Rattle.rvm_command.specs.declared.run.Ended.{Ended}
 use Rattle.rvm_command.specs.declared.run.Ended.TheVariants as ended
 use Rattle.rvm_command.specs.Faults.{Shown, first_fault}
-use Rattle.rvm_command.specs.Run.{IsPartWay, ran, run_from}
+use Rattle.rvm_command.specs.Run.{IsPartWay, ran_by, run_by}
 use Rattle.rvm_command.specs.Taken.{Taken, steps_in}
 use Rattle.rvm_command.specs.Trace.{before_of, line_of}
 
 -- the steps of a run of at most this many turns, one for each turn that is made
-abbrev pub steps_of_run : (turns : ℕ) → (input : List ℕ) → Guest → List Taken
-steps_of_run turns input g = steps_in (run_from turns 0 input g).events g
+abbrev pub steps_of_run : (seed : Option ℕ) → (turns : ℕ) → (input : List ℕ) → Guest → List Taken
+steps_of_run seed turns input g = steps_in (run_by seed turns 0 input g).events g
 
 -- the first fault that steps show, after earlier ones of which the latest comes first, if a run stops at it
 abbrev pub fault_among : (stop : Bool) → (earlier : List Taken) → List Taken → Option Shown
@@ -68,22 +68,23 @@ pub record Watched : Type 0 where
   pub lines : List (List ℕ)
 
 -- how many turns a run makes at most that stops at the first fault, if it is asked to
-abbrev pub turns_of : (stop : Bool) → (steps : ℕ) → (input : List ℕ) → Guest → ℕ
-turns_of stop steps input g = turns_until (fault_among stop [] (steps_of_run steps input g)) steps
+abbrev pub turns_of : (seed : Option ℕ) → (stop : Bool) → (steps : ℕ) → (input : List ℕ) → Guest → ℕ
+turns_of seed stop steps input g = turns_until (fault_among stop [] (steps_of_run seed steps input g)) steps
 
--- what a run of at most this many turns leaves of a guest, with this input, that stops at the first fault if it is
--- asked to, and has a trace of the turns of a range if there is one
-abbrev pub run_with : (stop : Bool) → (range : Option (ℕ × ℕ)) → (steps : ℕ) → (input : List ℕ) → Guest → Watched
-run_with stop range steps input g =
-    let turns = turns_of stop steps input g in
-    let all = ran turns input g in
+-- what a run of at most this many turns leaves of a guest, with this input, that draws its harts by a seed if there is one,
+-- stops at the first fault if it is asked to, and has a trace of the turns of a range if there is one
+abbrev pub run_with : (seed : Option ℕ) → (stop : Bool) → (range : Option (ℕ × ℕ)) → (steps : ℕ) → (input : List ℕ) → Guest
+    → Watched
+run_with seed stop range steps input g =
+    let turns = turns_of seed stop steps input g in
+    let all = ran_by seed turns input g in
     record {
       guest = all.guest;
       pages = all.pages;
       written = all.written;
-      ended = end_at (fault_among stop [] (steps_of_run steps input g)) all.ended;
-      steps = steps_of_run turns input g;
-      lines = trace_of range (steps_of_run turns input g);
+      ended = end_at (fault_among stop [] (steps_of_run seed steps input g)) all.ended;
+      steps = steps_of_run seed turns input g;
+      lines = trace_of range (steps_of_run seed turns input g);
     }
 
 -- a guest made this run to its end, which was written, as was the trace

@@ -7,8 +7,9 @@
 //! worlds and their scripts, and on `rvm_arguments`. It must not know files, processes or the terminal.
 //!
 //! To be read in this order: `guest`, `refused`, `flush`, `output_buffer`, `fault`, `run`, `trace`, `latest_traps`,
-//! `coverage`, `symbols`, `profile`, `watched`, `report`, `run_command`, `asm_command`, `dis_command`; `extended_command`, `extended_line`, `find_fault`,
-//! `extended_answers`, `extended_lines`, `extended_script`, `debug_command`; `script_refused`, `first_world`, `script_command`; `laws`.
+//! `coverage`, `symbols`, `profile`, `order`, `watched`, `report`, `run_command`, `orders_command`, `asm_command`,
+//! `dis_command`; `extended_command`, `extended_line`, `find_fault`, `extended_answers`, `extended_lines`,
+//! `extended_script`, `debug_command`; `script_refused`, `first_world`, `script_command`; `laws`.
 #![tactic(auto)]
 
 pub mod asm_command;
@@ -27,6 +28,8 @@ pub mod flush;
 pub mod guest;
 mod latest_traps;
 pub mod laws;
+mod order;
+pub mod orders_command;
 mod output_buffer;
 mod profile;
 pub mod refused;

@@ -132,7 +132,7 @@ fn run_status(asked: StatusOf, ended: Ended) -> u8
 
 /// The verdict on a run: 0 if the guest halted with 0, 3 if with another status, 4 if all steps were spent, 5 if it
 /// ended at a fault.
-fn verdict(ended: Ended) -> u8
+pub(crate) fn verdict(ended: Ended) -> u8
     ensures { result ≡ run_status tells.Verdict ended }
 {
     match ended {
@@ -294,7 +294,7 @@ fn run_to_report<M: Memory, O: Write, T: Write, R: Write>(
     files: &mut RunFiles<T, R>,
 ) -> Result<Ended, LinkFault>
     requires counts { AreRuns kept.old.counts [] }
-    ensures run { IfOk result (λ end. HasRun (run_with arguments.now.stop_at_fault (traced_of arguments.now.trace)
+    ensures run { IfOk result (λ end. HasRun (run_with arguments.now.seed arguments.now.stop_at_fault (traced_of arguments.now.trace)
         arguments.now.steps input.now guest.old.guest) end guest.old guest.new
         (O.contents output.old) (O.contents output.new)
         (T.contents files.old.trace) (T.contents files.new.trace)) }
@@ -303,9 +303,9 @@ fn run_to_report<M: Memory, O: Write, T: Write, R: Write>(
         → Covers arguments.now.guest.pages kept.old.counts kept.old.segments.items pieces)
         → Appends (R.contents files.old.report) (R.contents files.new.report)
         (report_text arguments.now.report arguments.now.guest.pages pieces symbols.now
-        (run_with arguments.now.stop_at_fault (traced_of arguments.now.trace) arguments.now.steps input.now
+        (run_with arguments.now.seed arguments.now.stop_at_fault (traced_of arguments.now.trace) arguments.now.steps input.now
         guest.old.guest))) }
-    ensures some { OnErr result (Writes (run_with arguments.now.stop_at_fault (traced_of arguments.now.trace)
+    ensures some { OnErr result (Writes (run_with arguments.now.seed arguments.now.stop_at_fault (traced_of arguments.now.trace)
         arguments.now.steps input.now guest.old.guest) arguments.now.trace arguments.now.report) }
 {
     let ended = run_to_end(
@@ -331,13 +331,13 @@ fn run_to_end<M: Memory, O: Write, T: Write>(
     trace: &mut T,
 ) -> Result<Ended, LinkFault>
     requires { AreRuns counts.old [] }
-    ensures counted { IfOk result (λ end. AreRuns counts.new (run_with arguments.now.stop_at_fault
+    ensures counted { IfOk result (λ end. AreRuns counts.new (run_with arguments.now.seed arguments.now.stop_at_fault
         (traced_of arguments.now.trace) arguments.now.steps input.now guest.old.guest).steps) }
     ensures count { length counts.new ≡ length counts.old }
-    ensures run { IfOk result (λ end. HasRun (run_with arguments.now.stop_at_fault (traced_of arguments.now.trace)
+    ensures run { IfOk result (λ end. HasRun (run_with arguments.now.seed arguments.now.stop_at_fault (traced_of arguments.now.trace)
         arguments.now.steps input.now guest.old.guest) end guest.old guest.new
         (O.contents output.old) (O.contents output.new) (T.contents trace.old) (T.contents trace.new)) }
-    ensures some { OnErr result (Writes (run_with arguments.now.stop_at_fault (traced_of arguments.now.trace)
+    ensures some { OnErr result (Writes (run_with arguments.now.seed arguments.now.stop_at_fault (traced_of arguments.now.trace)
         arguments.now.steps input.now guest.old.guest) arguments.now.trace arguments.now.report) }
 {
     let ended = run_asked(guest, arguments, input, counts, output, trace)?;

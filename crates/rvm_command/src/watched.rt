@@ -1,4 +1,5 @@
-//! The loop of a run that may end at a fault, and of which a part may be traced: turn by turn, and slower than `run`.
+//! The loop of a run whose harts may be drawn, that may end at a fault, and of which a part may be traced: turn by turn, and
+//! slower than `run`.
 
 ghost use Rattle.std.specs.Prelude.{◌≡◌, ◌<◌, ◌≤◌, ◌+◌, ◌%◌, ◌∷◌, ◌++◌, [], Some, None, IfOk, OnOk, OnErr, false, true, drop, length};
 ghost use Rattle.std.specs.List.{concat};
@@ -7,25 +8,27 @@ ghost use Rattle.rvm_board.specs.declared.event.BoardEvent.TheVariants.{Step};
 ghost use Rattle.rvm_board.specs.Events.{answered, pc_of, step_reply};
 ghost use Rattle.rvm_command.specs.Buffered.{GoesOut};
 ghost use Rattle.rvm_command.specs.Counting.{AreRuns};
-ghost use Rattle.rvm_command.specs.Run.{IsAfter, IsPartWay, after, run_from};
+ghost use Rattle.rvm_command.specs.Run.{IsAfter, IsPartWay, after, run_by};
 ghost use Rattle.rvm_command.specs.Turns.{between, drains_after, ends_turns, taken_by};
 ghost use Rattle.rvm_command.specs.Watched.{BreaksOff, HasRun, is_traced, lines_from, run_with, traced_of, turns_of};
 
 use crate::coverage::Counts;
 use crate::fault::Fault;
 use crate::latest_traps::LatestTraps;
+use crate::order::hart_of;
 use crate::output_buffer::OutputBuffer;
 use crate::run::{Ended, WRITE_EVERY, drain, feed, run};
 use crate::trace::{look, write_step};
-use rvm_arguments::{RunArguments, TraceArguments};
+use rvm_arguments::{OrdersArguments, RunArguments, TraceArguments};
 use rvm_board::{BoardReply, DRAIN_EVERY, Debugged};
 use rvm_hart::Stepped;
 use rvm_mem::Memory;
 use rvm_refusal::LinkFault;
-use std::io::Write;
+use std::alloc::Global;
+use std::io::{self, Write};
 
-/// Runs a guest as the arguments ask for: turn by turn, if it has to stop at a fault, is traced, or the words that run are
-/// counted, which is so if `counts` has numbers. `LinkFault` if a write fails.
+/// Runs a guest as the arguments ask for: turn by turn, if its harts are drawn, if it has to stop at a fault, is traced, or
+/// the words that run are counted, which is so if `counts` has numbers. `LinkFault` if a write fails.
 #[tactic(auto, using(crate::proofs::Covering::counted_anyway))]
 pub(crate) fn run_asked<M: Memory, O: Write, T: Write>(
     guest: &mut Debugged<M>,
@@ -36,27 +39,62 @@ pub(crate) fn run_asked<M: Memory, O: Write, T: Write>(
     trace: &mut T,
 ) -> Result<Ended, LinkFault>
     requires { AreRuns counts.old [] }
-    ensures counted { IfOk result (λ end. AreRuns counts.new (run_with arguments.now.stop_at_fault
+    ensures counted { IfOk result (λ end. AreRuns counts.new (run_with arguments.now.seed arguments.now.stop_at_fault
         (traced_of arguments.now.trace) arguments.now.steps input.now guest.old.guest).steps) }
     ensures count { length counts.new ≡ length counts.old }
-    ensures run { IfOk result (λ end. HasRun (run_with arguments.now.stop_at_fault (traced_of arguments.now.trace)
+    ensures run { IfOk result (λ end. HasRun (run_with arguments.now.seed arguments.now.stop_at_fault (traced_of arguments.now.trace)
         arguments.now.steps input.now guest.old.guest) end guest.old guest.new
         (O.contents output.old) (O.contents output.new) (T.contents trace.old) (T.contents trace.new)) }
-    ensures broken { OnErr result (BreaksOff (run_with arguments.now.stop_at_fault (traced_of arguments.now.trace)
+    ensures broken { OnErr result (BreaksOff (run_with arguments.now.seed arguments.now.stop_at_fault (traced_of arguments.now.trace)
         arguments.now.steps input.now guest.old.guest)
-        (run_from (turns_of arguments.now.stop_at_fault arguments.now.steps input.now guest.old.guest) 0 input.now
+        (run_by arguments.now.seed (turns_of arguments.now.seed arguments.now.stop_at_fault arguments.now.steps input.now guest.old.guest) 0 input.now
         guest.old.guest).events guest.old guest.new) }
 {
     let asked = Asked {
         steps: arguments.steps,
         stop_at_fault: arguments.stop_at_fault,
         traced: traced_of(&arguments.trace),
+        seed: arguments.seed,
     };
-    if asked.stop_at_fault || asked.traced.is_some() || !counts.is_empty() {
+    if asked.seed.is_some() || asked.stop_at_fault || asked.traced.is_some() || !counts.is_empty() {
         run_watched(guest, asked, input, counts, output, trace)
     } else {
         run(guest, asked.steps, input, output)
     }
+}
+
+/// Runs a guest by a seed, of which nothing but its output is asked. `LinkFault` if a write fails, which is possible only if
+/// there was something to write.
+#[tactic(auto, using(crate::proofs::Covering::nothing_counted, crate::proofs::Seeding::some_output))]
+pub(crate) fn run_seeded<M: Memory, W: Write>(
+    alloc: Global,
+    guest: &mut Debugged<M>,
+    arguments: &OrdersArguments,
+    input: &[u8],
+    seed: u32,
+    writer: &mut W,
+) -> Result<Ended, LinkFault>
+    ensures ended { IfOk result (λ end. end ≡ (run_with (Some seed) arguments.now.stop_at_fault None arguments.now.steps
+        input.now guest.old.guest).ended) }
+    ensures written { OnOk result (Appends (W.contents writer.old) (W.contents writer.new)
+        (run_with (Some seed) arguments.now.stop_at_fault None arguments.now.steps input.now guest.old.guest).written) }
+    ensures some { OnErr result (0 < length (run_with (Some seed) arguments.now.stop_at_fault None arguments.now.steps
+        input.now guest.old.guest).written) }
+{
+    let asked = Asked {
+        steps: arguments.steps,
+        stop_at_fault: arguments.stop_at_fault,
+        traced: None,
+        seed: Some(seed),
+    };
+    run_watched(
+        guest,
+        asked,
+        input,
+        &mut Counts::none(alloc),
+        writer,
+        &mut io::sink(),
+    )
 }
 
 /// The first and the last turn that have a line in a trace, if there is one.
@@ -78,9 +116,11 @@ struct Asked {
     stop_at_fault: bool,
     /// The first and the last turn that have a line in its trace, if it is traced.
     traced: Option<(u32, u32)>,
+    /// The seed by which the hart of each turn is drawn, if there is one.
+    seed: Option<u32>,
 }
 
-/// Makes the turns of a run, as `run` does, one by one. If the run is asked to stop at a fault, it ends after the step
+/// Makes the turns of a run, as `run` does, one by one. If there is a seed, the hart of each turn is drawn by it. If the run is asked to stop at a fault, it ends after the step
 /// that shows the first one. Writes a line to `trace` for each step whose turn is traced; turns are counted from 0. Counts
 /// how often each word of RAM ran, if `counts` has numbers. Returns how the run ended.
 ///
@@ -96,14 +136,14 @@ fn run_watched<M: Memory, W: Write, T: Write>(
 ) -> Result<Ended, LinkFault>
     requires { AreRuns counts.old [] }
     ensures counted { IfOk result (λ end. AreRuns counts.new
-        (run_with asked.stop_at_fault asked.traced asked.steps input.now guest.old.guest).steps) }
+        (run_with asked.seed asked.stop_at_fault asked.traced asked.steps input.now guest.old.guest).steps) }
     ensures count { length counts.new ≡ length counts.old }
     ensures run { IfOk result (λ end. HasRun
-        (run_with asked.stop_at_fault asked.traced asked.steps input.now guest.old.guest) end guest.old guest.new
+        (run_with asked.seed asked.stop_at_fault asked.traced asked.steps input.now guest.old.guest) end guest.old guest.new
         (W.contents writer.old) (W.contents writer.new) (T.contents trace.old) (T.contents trace.new)) }
     ensures broken { OnErr result (BreaksOff
-        (run_with asked.stop_at_fault asked.traced asked.steps input.now guest.old.guest)
-        (run_from (turns_of asked.stop_at_fault asked.steps input.now guest.old.guest) 0 input.now guest.old.guest).events
+        (run_with asked.seed asked.stop_at_fault asked.traced asked.steps input.now guest.old.guest)
+        (run_by asked.seed (turns_of asked.seed asked.stop_at_fault asked.steps input.now guest.old.guest) 0 input.now guest.old.guest).events
         guest.old guest.new) }
 {
     let mut next = 0;
@@ -112,7 +152,7 @@ fn run_watched<M: Memory, W: Write, T: Write>(
     let mut buffer = OutputBuffer::new();
     let mut traps = LatestTraps::new();
     while turn < asked.steps && end.is_none() {
-        let hart = turn % guest.harts();
+        let hart = hart_of(asked.seed, turn, guest.harts());
         next = feed(guest, input, next);
         let pc = guest.pc(hart);
         let stepped = take_step(guest, turn, hart, asked.traced, trace)?;

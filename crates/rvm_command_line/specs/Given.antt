@@ -8,12 +8,13 @@ use Rattle.std.specs.Str.{bytes_eq}
 use Rattle.clap.specs.declared.parser.matches.ValueSource.{ValueSource}
 use Rattle.clap.specs.declared.parser.matches.ValueSource.TheVariants.{CommandLine}
 use Rattle.rvm_arguments.specs.declared.arguments.Arguments.{Arguments}
-use Rattle.rvm_arguments.specs.declared.arguments.Arguments.TheVariants.{Run, Asm, Dis, Debug, Script, Move, Audit, Host, Tell, Replay, AuditJournals}
+use Rattle.rvm_arguments.specs.declared.arguments.Arguments.TheVariants.{Run, Orders, Asm, Dis, Debug, Script, Move, Audit, Host, Tell, Replay, AuditJournals}
 use Rattle.rvm_arguments.specs.declared.arguments.AuditJournalsArguments.{AuditJournalsArguments}
 use Rattle.rvm_arguments.specs.declared.arguments.DebugArguments.{DebugArguments}
 use Rattle.rvm_arguments.specs.declared.arguments.GuestArguments.{GuestArguments}
 use Rattle.rvm_arguments.specs.declared.arguments.HostArguments.{HostArguments}
 use Rattle.rvm_arguments.specs.declared.arguments.MoveArguments.{MoveArguments}
+use Rattle.rvm_arguments.specs.declared.arguments.OrdersArguments.{OrdersArguments}
 use Rattle.rvm_arguments.specs.declared.arguments.ReplayArguments.{ReplayArguments}
 use Rattle.rvm_arguments.specs.declared.arguments.Report.{Report}
 use Rattle.rvm_arguments.specs.declared.arguments.Report.TheVariants.{Coverage, Profile, Signature}
@@ -110,7 +111,8 @@ IsReport pages rows None =
     × (first_of (codes "profile") rows ≡ None)
 IsReport pages rows (Some r) = IsReportTo pages rows r.file.now r.report
 
--- a guest, its input, its turns, what the status tells, what is looked at while it runs, and what is reported of it
+-- a guest, its input, its turns, what the status tells, what is looked at while it runs, what is reported of it, and the
+-- seed of the order of its harts; no other runs are asked for
 pub record IsRun (rows : List Row) (run : RunArguments) : Type 0 where
   pub guest : IsGuest rows run.guest
   pub input : first_of (codes "input") rows ≡ option_map (λ s. s.now) run.input
@@ -119,6 +121,21 @@ pub record IsRun (rows : List Row) (run : RunArguments) : Type 0 where
   pub stop_at_fault : IsFlag (one_of (codes "stop-at-fault") rows) run.stop_at_fault
   pub trace : IsTrace rows run.trace
   pub report : IsReport run.guest.pages rows run.report
+  pub seed : IsOptionalNumber (first_of (codes "order") rows) run.seed
+  pub alone : first_of (codes "orders") rows ≡ None
+
+-- a guest, its input and its turns, whether it stops at faults, and the number of seeds by which it is run; a verdict is
+-- asked for, and no other status, no seed, no trace and no report
+pub record IsOrders (rows : List Row) (asked : OrdersArguments) : Type 0 where
+  pub guest : IsGuest rows asked.guest
+  pub input : first_of (codes "input") rows ≡ option_map (λ s. s.now) asked.input
+  pub steps : IsNumber (first_of (codes "steps") rows) asked.steps
+  pub stop_at_fault : IsFlag (one_of (codes "stop-at-fault") rows) asked.stop_at_fault
+  pub orders : IsNumber (first_of (codes "orders") rows) asked.orders
+  pub judged : IsStatusOf (one_of (codes "verdict") rows) (one_of (codes "exit-status") rows) Verdict
+  pub no_seed : first_of (codes "order") rows ≡ None
+  pub no_trace : IsTrace rows None
+  pub no_report : IsReport asked.guest.pages rows None
 
 -- a guest, and whether the session is extended
 pub record IsDebug (rows : List Row) (asked : DebugArguments) : Type 0 where
@@ -199,6 +216,7 @@ pub record IsAuditJournals (rows : List Row) (asked : AuditJournalsArguments) : 
 -- what the words of a command with this name ask for
 abbrev pub Gives : Text → List Row → Arguments → Type 0
 Gives name rows (Run run) = (name ≡ codes "run") × IsRun rows run
+Gives name rows (Orders asked) = (name ≡ codes "run") × IsOrders rows asked
 Gives name rows (Debug asked) = (name ≡ codes "debug") × IsDebug rows asked
 Gives name rows (Script script) = (name ≡ codes "script") × IsScript rows script
 Gives name rows (Move asked) = (name ≡ codes "move") × IsMove rows asked

@@ -110,9 +110,14 @@ with_turns command =
     with_rule (with_rule (with_guest command) (number (codes "steps") (codes "1000000") 1000000000))
     (option (codes "input"))
 
+-- a command that takes the words for the order of its harts
+abbrev pub with_order : App → App
+with_order command =
+    with_rule (with_rule command (bounded (codes "order") 0 4294967295)) (bounded (codes "orders") 1 1000000)
+
 -- the command that runs a guest
 abbrev pub run : App
-run = with_report (with_watch (with_status (with_turns (new_app (codes "run")))))
+run = with_order (with_report (with_watch (with_status (with_turns (new_app (codes "run"))))))
 
 -- the command that makes an ELF file of an assembly text
 abbrev pub asm : App

@@ -6,7 +6,7 @@ ghost use Rattle.clap.specs.Walk.{Rule, rule_of};
 ghost use Rattle.clap.specs.Words.{kind_of};
 ghost use Rattle.clap.specs.declared.error.kind.ErrorKind.TheVariants as kind;
 ghost use Rattle.rvm_command_line.specs.Made.{IsMade};
-ghost use Rattle.rvm_command_line.specs.Program.{allowed, asm, audit, audit_journals, bounded, debug, dis, flag, host, move, needed, needed_option, number, option, program, replay, run, script, several, signature, tell, top, with_addresses, with_board, with_command, with_default, with_explain, with_guest, with_hosting, with_journal, with_move, with_name, with_policy, with_profile, with_replay, with_report, with_status, with_trace, with_turns, with_verdict, with_watch, with_world};
+ghost use Rattle.rvm_command_line.specs.Program.{allowed, asm, audit, audit_journals, bounded, debug, dis, flag, host, move, needed, needed_option, number, option, program, replay, run, script, several, signature, tell, top, with_addresses, with_board, with_command, with_default, with_explain, with_guest, with_hosting, with_journal, with_move, with_name, with_order, with_policy, with_profile, with_replay, with_report, with_status, with_trace, with_turns, with_verdict, with_watch, with_world};
 
 use clap::builder::ValueParser;
 use clap::{Arg, ArgAction, Command, Error};
@@ -33,6 +33,10 @@ With --coverage the file has, after the last turn, the lines of `rvmove dis`, ea
 ran its instruction. With --profile the file has, after the last turn, a line for each line of the file of
 --symbols, which is what `nm -n` prints: how many steps the symbol took, and its name; `sort -rn` puts the
 costliest first. --signature, --coverage and --profile exclude one another.
+With --order a generator with the seed S draws the hart of each turn; the same S gives the same run.
+With --orders the guest is run by the seeds 0 to N - 1, each time from its image, up to the first run whose
+verdict is not 0. Standard output has what the guest sent in that run, standard error `order S` and how it
+ended; or standard error has `N orders passed`. --orders excludes --order and what looks at a run.
 
 The status:      halted 0  halted S  steps spent  fault  refused
                  0         0         0            0      1
@@ -525,7 +529,7 @@ fn run_command<'a>(alloc: Global) -> Made<'a>
         RUN_HELP,
     );
     let run = status_command(turns_command(run, alloc), alloc);
-    report_command(watch_command(run, alloc), alloc)
+    order_command(report_command(watch_command(run, alloc), alloc), alloc)
 }
 
 /// Adds to a command the words for a guest, its turns and its input.
@@ -577,6 +581,33 @@ fn symbols_option<'a>(alloc: Global) -> Arg<'a>
 {
     let help = "The file of the symbols: what nm -n prints of the image";
     option(alloc, "symbols", "FILE", help)
+}
+
+/// Adds to a command the words for the order of its harts.
+fn order_command<'a>(command: Made<'a>, alloc: Global) -> Made<'a>
+    ensures { (made : App) → IsMade command.entry made → IsMade result (with_order made) }
+{
+    let command = with_arg(command, seed_option(alloc));
+    with_arg(command, orders_option(alloc))
+}
+
+/// The option `--orders`: the number of seeds by which the guest is run, one after the other.
+fn orders_option<'a>(alloc: Global) -> Arg<'a>
+    ensures rule { rule_of result ≡ bounded (codes "orders") 1 1000000 }
+    ensures local { result.global ≡ false }
+{
+    let help =
+        "Runs the guest by N seeds from 0 on, up to the first run that fails, 1 to 1000000; wants --verdict";
+    bounded(alloc, "orders", "N", 1, 1_000_000, help)
+}
+
+/// The option `--order`: the seed by which the hart of each turn is drawn.
+fn seed_option<'a>(alloc: Global) -> Arg<'a>
+    ensures rule { rule_of result ≡ bounded (codes "order") 0 4294967295 }
+    ensures local { result.global ≡ false }
+{
+    let help = "The seed by which the hart of each turn is drawn, 0 to 4294967295";
+    bounded(alloc, "order", "S", 0, u32::MAX, help)
 }
 
 /// The option `--coverage`: the file that gets how often each word of the image ran.

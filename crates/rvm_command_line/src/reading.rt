@@ -1,6 +1,6 @@
 //! Reads the words of a command line as arguments.
 
-ghost use Rattle.std.specs.Prelude.{◌≡◌, ◌≤◌, ◌&&◌, nat_le, true, if◌then◌else◌, [], ◌∷◌, Some, IfErr, IfOk, IfSome, None, codes, map, option_map};
+ghost use Rattle.std.specs.Prelude.{◌≡◌, ◌≤◌, ◌&&◌, nat_le, true, if◌then◌else◌, [], ◌∷◌, Some, IfErr, IfOk, IfSome, OnOk, None, codes, map, option_map};
 ghost use Rattle.clap.specs.Faults.{fault_of};
 ghost use Rattle.clap.specs.Kinds.{HasKind};
 ghost use Rattle.clap.specs.Matches.{found_of};
@@ -8,7 +8,8 @@ ghost use Rattle.clap.specs.Simple.{app_of, subcommand_of, subcommand_rows_of};
 ghost use Rattle.clap.specs.Walk.{all_of, first_of, one_of, rows_of};
 ghost use Rattle.clap.specs.Words.{kind_of};
 ghost use Rattle.clap.specs.declared.error.kind.ErrorKind.TheVariants as kind;
-ghost use Rattle.rvm_command_line.specs.Given.{Gives, IsAsked, IsAuditJournals, IsExplained, IsFlag, IsGuest, IsHost, IsInRam, IsMove, IsNumber, IsNumberOr, IsOptionalGuest, IsOptionalNumber, IsReplay, IsReport, IsSignature, IsStatusOf, IsTell, IsTrace, is_from_words, is_given};
+ghost use Rattle.rvm_arguments.specs.declared.arguments.StatusOf.TheVariants.{Verdict};
+ghost use Rattle.rvm_command_line.specs.Given.{Gives, IsAsked, IsAuditJournals, IsExplained, IsFlag, IsGuest, IsHost, IsInRam, IsMove, IsNumber, IsNumberOr, IsOptionalGuest, IsOptionalNumber, IsOrders, IsReplay, IsReport, IsSignature, IsStatusOf, IsTell, IsTrace, is_from_words, is_given};
 ghost use Rattle.rvm_text.specs.Numbers.{number_of};
 ghost use Rattle.rvm_command_line.specs.Program.{faults_of, program};
 
@@ -19,8 +20,9 @@ use clap::parser::ValueSource;
 use clap::{ArgMatches, Command, Error};
 use rvm_arguments::{
     Arguments, AsmArguments, AuditJournalsArguments, CommandLine, DebugArguments, DisArguments,
-    GuestArguments, HostArguments, MoveArguments, ReplayArguments, Report, ReportArguments,
-    RunArguments, ScriptArguments, StatusOf, TellArguments, TraceArguments, WordRange,
+    GuestArguments, HostArguments, MoveArguments, OrdersArguments, ReplayArguments, Report,
+    ReportArguments, RunArguments, ScriptArguments, StatusOf, TellArguments, TraceArguments,
+    WordRange,
 };
 use rvm_mem::{MAX_PAGES, PAGE_SIZE};
 use rvm_text::number as spelled;
@@ -41,6 +43,9 @@ const MAX_STREAM: u32 = 3;
 
 /// The most turns that a run makes.
 pub const MAX_STEPS: u32 = 1_000_000_000;
+
+/// The most seeds by which a guest is run.
+const MAX_ORDERS: u32 = 1_000_000;
 
 /// The last turn that a run can make, counted from 0.
 const LAST_TURN: u32 = MAX_STEPS - 1;
@@ -160,12 +165,18 @@ fn read_matches<'a>(matches: &ArgMatches<'a>) -> Result<Arguments<'a>, &'static 
 fn read_run<'a>(run: &ArgMatches<'a>) -> Result<Arguments<'a>, &'static str>
     ensures { IfOk result (Gives (codes "run") (rows_of (found_of run.now))) }
 {
+    if text(run, "orders").is_some() {
+        return Ok(Arguments::Orders(read_orders(run)?));
+    }
     let guest = read_guest(run)?;
     let Some(steps) = number(run, "steps", 1, MAX_STEPS) else {
         return Err("--steps takes a decimal number from 1 to 1000000000");
     };
     let status = read_status(run)?;
     let report = read_report(run, guest.pages)?;
+    let Some(seed) = optional_number(run, "order", 0, u32::MAX) else {
+        return Err("--order takes a decimal number from 0 to 4294967295");
+    };
     Ok(Arguments::Run(RunArguments {
         guest,
         input: text(run, "input"),
@@ -174,7 +185,59 @@ fn read_run<'a>(run: &ArgMatches<'a>) -> Result<Arguments<'a>, &'static str>
         stop_at_fault: flag(run, "stop-at-fault"),
         trace: read_trace(run)?,
         report,
+        seed,
     }))
+}
+
+/// The arguments of `run --orders`. Fails with a text that says which of them is not what it must be.
+fn read_orders<'a>(run: &ArgMatches<'a>) -> Result<OrdersArguments<'a>, &'static str>
+    ensures { IfOk result (IsOrders (rows_of (found_of run.now))) }
+{
+    let guest = read_guest(run)?;
+    let Some(steps) = number(run, "steps", 1, MAX_STEPS) else {
+        return Err("--steps takes a decimal number from 1 to 1000000000");
+    };
+    let Some(orders) = number(run, "orders", 1, MAX_ORDERS) else {
+        return Err("--orders takes a decimal number from 1 to 1000000");
+    };
+    check_status(run)?;
+    check_alone(run, guest.pages)?;
+    Ok(OrdersArguments {
+        guest,
+        input: text(run, "input"),
+        steps,
+        stop_at_fault: flag(run, "stop-at-fault"),
+        orders,
+    })
+}
+
+/// Fails with a text if `run --orders` is not asked for a verdict.
+fn check_status(run: &ArgMatches) -> Result<(), &'static str>
+    ensures { OnOk result (IsStatusOf (one_of (codes "verdict") (rows_of (found_of run.now)))
+        (one_of (codes "exit-status") (rows_of (found_of run.now))) Verdict) }
+{
+    match read_status(run)? {
+        StatusOf::Verdict => Ok(()),
+        StatusOf::Command | StatusOf::Guest => Err("--orders wants --verdict"),
+    }
+}
+
+/// Fails with a text if `run --orders`, with this many pages of RAM, is given a seed, or a file for a trace or a report.
+fn check_alone(run: &ArgMatches, pages: u32) -> Result<(), &'static str>
+    ensures seed { OnOk result (first_of (codes "order") (rows_of (found_of run.now)) ≡ None) }
+    ensures trace { OnOk result (IsTrace (rows_of (found_of run.now)) None) }
+    ensures report { OnOk result (IsReport pages (rows_of (found_of run.now)) None) }
+{
+    if text(run, "order").is_some() {
+        return Err("--order and --orders exclude each other");
+    }
+    let None = read_trace(run)? else {
+        return Err("--orders excludes --trace, --signature, --coverage and --profile");
+    };
+    match read_report(run, pages)? {
+        None => Ok(()),
+        Some(_) => Err("--orders excludes --trace, --signature, --coverage and --profile"),
+    }
 }
 
 /// What is reported of a run with this many pages of RAM. Fails with a text if a word of a report is not what it must

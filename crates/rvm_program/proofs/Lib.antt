@@ -9,4 +9,5 @@ pub mod AuditedFiles
 pub mod Reading
 pub mod Statuses
 pub mod Told
+mod OrdersEnded
 mod ReplayEnds

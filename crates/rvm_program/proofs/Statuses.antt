@@ -4,12 +4,13 @@ use Rattle.std.specs.Borrow.{Bor}
 use Rattle.std.specs.Result.{IfErr, IfOk}
 use Rattle.std.specs.Prelude.{OnErr}
 use Rattle.rvm_arguments.specs.declared.arguments.Arguments.{Arguments}
-use Rattle.rvm_arguments.specs.declared.arguments.Arguments.TheVariants.{Run, Asm, Dis, Debug, Script, Move, Audit, Host, Tell, Replay, AuditJournals}
+use Rattle.rvm_arguments.specs.declared.arguments.Arguments.TheVariants.{Run, Orders, Asm, Dis, Debug, Script, Move, Audit, Host, Tell, Replay, AuditJournals}
 use Rattle.rvm_program.specs.Ended.{HasEnded, HasRunTo, HostEnded, IsReplayEnd, IsUnbegun, IsUntold, JournalsEnded, MoveHasStatus, ReplayEnded, TellEnded, Written}
 use Rattle.rvm_program.specs.Performed.{HasFailed, IsJudged, IsPassingOn, MayBeOpen, TellsMore}
 use Rattle.rvm_arguments.specs.declared.arguments.AuditJournalsArguments.{AuditJournalsArguments}
 use Rattle.rvm_arguments.specs.declared.arguments.HostArguments.{HostArguments}
 use Rattle.rvm_arguments.specs.declared.arguments.MoveArguments.{MoveArguments}
+use Rattle.rvm_arguments.specs.declared.arguments.OrdersArguments.{OrdersArguments}
 use Rattle.rvm_arguments.specs.declared.arguments.ReplayArguments.{ReplayArguments}
 use Rattle.rvm_arguments.specs.declared.arguments.RunArguments.{RunArguments}
 use Rattle.rvm_arguments.specs.declared.arguments.StatusOf.{StatusOf}
@@ -19,6 +20,8 @@ use Rattle.rvm_command.specs.declared.refused.Refused.{Refused}
 use Rattle.rvm_command.specs.declared.run.Ended.{Ended}
 use Rattle.rvm_command.specs.declared.run.Ended.TheVariants.{Fault, HaltedWith, StepsSpent}
 use Rattle.rvm_command.specs.Command.{refused_text}
+use Rattle.rvm_command.specs.Seeds.{IsOrdersEnd, OrdersHaveStatus}
+use Rattle.rvm_command.specs.declared.orders_command.FailedRun.{FailedRun}
 use Rattle.rvm_command.specs.Ends.{RunHasStatus, run_status}
 use Rattle.rvm_command.specs.Refusals.{refused}
 use Rattle.rvm_move.specs.Ended.{ended_of, status_asked}
@@ -75,6 +78,17 @@ run_ended : (a : RunArguments) (s : ℕ) (End : Result Ended Refused → Type 0)
     → RunHasStatus a.status s End before after → IsAskedFor (Run a) s
 run_ended a s End before after (inl e) = run_asked a a.status s e.0 refl e.1
 run_ended a s End before after (inr r) = little (Run a) s (omega (arith, r.1))
+
+-- runs by several seeds have a verdict, or were refused
+orders_ended : (a : OrdersArguments) (s : ℕ) (End : Result (Option FailedRun) Refused → Type 0) (before after : Option (List ℕ))
+    → OrdersHaveStatus a s End before after → IsAskedFor (Orders a) s
+orders_ended a s End before after (inl failed) = record {
+  passing = λ two. absurd (no_verdict failed.0.ended (sym failed.1 ∙ two));
+  lost = λ three. inr tt;
+  judged = λ above. tt;
+}
+orders_ended a s End before after (inr (inl passed)) = little (Orders a) s (omega (arith, passed.0))
+orders_ended a s End before after (inr (inr r)) = little (Orders a) s (omega (arith, r.1))
 
 -- a move has the status that was asked for
 move_asked : (a : MoveArguments) (verdict : Bool) (s : ℕ) (e : Ended) → a.verdict ≡ verdict
@@ -143,6 +157,9 @@ more : (files created : Named) (a : Arguments) (n : ℕ) (script : Option (List 
     → HasEnded files created a (suc (suc n)) script output errors → IsAskedFor a (suc (suc n))
 more files created (Run a) n script output errors e =
     run_ended a (suc (suc n)) (λ end. HasRunTo created a e.image e.input e.symbols end output) errors.before errors.after
+    e.ended
+more files created (Orders a) n script output errors e =
+    orders_ended a (suc (suc n)) (λ end. IsOrdersEnd a e.image e.input end output.before output.after) errors.before errors.after
     e.ended
 more files created (Asm a) n script output errors e = absurd e.ended
 more files created (Dis a) n script output errors e = absurd e.ended

@@ -4,7 +4,7 @@ use Rattle.std.specs.Io.KnownBytes.{Appends}
 use Rattle.std.specs.Str.{bytes_eq}
 use Rattle.std.specs.Prelude.{◌≡◌, ◌⊎◌, ⊤, codes, ℕ, zero, suc, Bool, true, false, List, [], ◌∷◌, ◌++◌, Option, None, Some, IfSome, Result, option_map}
 use Rattle.rvm_arguments.specs.declared.arguments.Arguments.{Arguments}
-use Rattle.rvm_arguments.specs.declared.arguments.Arguments.TheVariants.{Run, Asm, Dis, Debug, Script, Move, Audit, Host, Tell, Replay, AuditJournals}
+use Rattle.rvm_arguments.specs.declared.arguments.Arguments.TheVariants.{Run, Orders, Asm, Dis, Debug, Script, Move, Audit, Host, Tell, Replay, AuditJournals}
 use Rattle.rvm_arguments.specs.declared.arguments.AsmArguments.{AsmArguments}
 use Rattle.rvm_arguments.specs.declared.arguments.AuditJournalsArguments.{AuditJournalsArguments}
 use Rattle.rvm_arguments.specs.declared.arguments.DebugArguments.{DebugArguments}
@@ -13,6 +13,7 @@ use Rattle.rvm_arguments.specs.declared.arguments.HostArguments.{HostArguments}
 use Rattle.rvm_arguments.specs.declared.arguments.MoveArguments.{MoveArguments}
 use Rattle.rvm_arguments.specs.declared.arguments.ReplayArguments.{ReplayArguments}
 use Rattle.rvm_arguments.specs.declared.arguments.ReportArguments.{ReportArguments}
+use Rattle.rvm_arguments.specs.declared.arguments.OrdersArguments.{OrdersArguments}
 use Rattle.rvm_arguments.specs.declared.arguments.RunArguments.{RunArguments}
 use Rattle.rvm_arguments.specs.declared.arguments.ScriptArguments.{ScriptArguments}
 use Rattle.rvm_arguments.specs.declared.arguments.TraceArguments.{TraceArguments}
@@ -20,6 +21,7 @@ use Rattle.rvm_command.specs.Command.{image_of}
 use Rattle.rvm_command.specs.declared.refused.Refused.{Refused}
 use Rattle.rvm_command.specs.declared.run.Ended.{Ended}
 use Rattle.rvm_command.specs.Ends.{HasStatus, IsAsmEnd, IsDebugEnd, IsListEnd, IsRunEnd, RunHasStatus}
+use Rattle.rvm_command.specs.Seeds.{IsOrdersEnd, OrdersHaveStatus}
 use Rattle.rvm_command.specs.Refusals.{IsTold, refused}
 use Rattle.rvm_replay.specs.Replays.{HasReplayStatus, HasSessionStatus}
 use Rattle.rvm_host_command.specs.Hosted.{IsHostedTo}
@@ -30,7 +32,7 @@ use Rattle.rvm_replay.specs.declared.journal_audit.AuditText.TheVariants.{Order,
 use Rattle.rvm_replay.specs.declared.journal_file.JournalFile.{JournalFile}
 use Rattle.rvm_move.specs.Ended.{IsMoved, IsNotMoved}
 use Rattle.rvm_move.specs.Orders.{IsAudited, IsNotAudited}
-use Rattle.rvm_program.specs.Files.{IsApart, IsCreated, IsFile, IsFileRefusal, IsImage, IsInput, IsOpened, IsRefusedFile, IsUnread, Named, file_text, symbols_name}
+use Rattle.rvm_program.specs.Files.{IsApart, IsCreated, IsFile, IsFileRefusal, IsFirstInput, IsImage, IsInput, IsOpened, IsRefusedFile, IsUnread, Named, file_text, symbols_name}
 use Rattle.rvm_refusal.specs.declared.refusal.Refusal.{Refusal}
 use Rattle.rvm_command.specs.ScriptEnds.{IsScriptEnd}
 
@@ -76,6 +78,15 @@ pub record RunEnded (files created : Named) (a : RunArguments) (status : ℕ) (o
   pub input_is : IsInput files a.input input
   pub symbols_are : IsInput files (symbols_name a.report) symbols
   pub ended : RunHasStatus a.status status (λ end. HasRunTo created a image input symbols end output)
+      errors.before errors.after
+
+-- `run --orders` was given the image that it names, and of the input, if it names some, at most one byte for each turn
+pub record OrdersEnded (files : Named) (a : OrdersArguments) (status : ℕ) (output errors : Written) : Type 0 where
+  pub image : List ℕ
+  pub input : List ℕ
+  pub image_is : IsFile (files a.guest.image.now) image
+  pub input_is : IsFirstInput files a.input a.steps input
+  pub ended : OrdersHaveStatus a status (λ end. IsOrdersEnd a image input end output.before output.after)
       errors.before errors.after
 
 -- `asm` was given the text that it names, and wrote to the file that it names, which had other bytes
@@ -287,6 +298,7 @@ IsAuditEnd status files journals image text before errors =
 abbrev pub HasEnded : (files created : Named) → Arguments → (status : ℕ) → (script : Option (List ℕ))
     → (output errors : Written) → Type 0
 HasEnded files created (Run a) status script output errors = RunEnded files created a status output errors
+HasEnded files created (Orders a) status script output errors = OrdersEnded files a status output errors
 HasEnded files created (Asm a) status script output errors = AsmEnded files created a status errors
 HasEnded files created (Dis a) status script output errors = DisEnded files a status output.before errors
 HasEnded files created (Debug a) status script output errors = DebugEnded files a status script output.before errors

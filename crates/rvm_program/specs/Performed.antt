@@ -6,7 +6,7 @@ use Rattle.clap.specs.Simple.{subcommand_of}
 use Rattle.clap.specs.Walk.{Text}
 use Rattle.clap.specs.declared.error.kind.ErrorKind.TheVariants as kind
 use Rattle.rvm_arguments.specs.declared.arguments.Arguments.{Arguments}
-use Rattle.rvm_arguments.specs.declared.arguments.Arguments.TheVariants.{AuditJournals, Host, Move, Run, Tell}
+use Rattle.rvm_arguments.specs.declared.arguments.Arguments.TheVariants.{AuditJournals, Host, Move, Orders, Run, Tell}
 use Rattle.rvm_arguments.specs.declared.arguments.CommandLine.{CommandLine}
 use Rattle.rvm_arguments.specs.declared.arguments.StatusOf.{StatusOf}
 use Rattle.rvm_arguments.specs.declared.arguments.StatusOf.TheVariants.{Command, Verdict, Guest}
@@ -59,9 +59,10 @@ TellsMore Command = ⊥
 TellsMore Verdict = ⊤
 TellsMore Guest = ⊤
 
--- a run, a move or a host has a status that tells how it, or its guest there, ended
+-- a run, several, a move or a host have a status that tells how they, or its guest there, ended
 abbrev pub IsJudged : Arguments → Type 0
 IsJudged (Run a) = TellsMore a.status
+IsJudged (Orders a) = ⊤
 IsJudged (Move a) = a.verdict ≡ true
 IsJudged (Host a) = a.verdict ≡ true
 IsJudged other = ⊥

@@ -70,7 +70,7 @@ pub(crate) fn run<M: PagedMemory + Drop, F: NamedFiles, O: Write, E: Write>(
         × (E.contents errors.new ≡ E.contents errors.old)) }
 {
     let image = begin_image(files, alloc, &arguments.guest)?;
-    let input = read_input(files, alloc, arguments)?;
+    let input = read_input(files, alloc, arguments.input, arguments.steps)?;
     let symbols = read_symbols(files, alloc, &arguments.report)?;
     check_image(&arguments.guest, &image)?;
     let read = RunRead {
@@ -204,16 +204,17 @@ fn create_named<F: NamedFiles>(
 
 /// The bytes for the console: the first bytes of a file, at most one for each turn, or none if no file is named.
 /// `TooLong` if these would be more than `MAX_FILE_SIZE` bytes.
-fn read_input<F: NamedFiles>(
+pub(crate) fn read_input<F: NamedFiles>(
     files: &F,
     alloc: Global,
-    arguments: &RunArguments,
+    name: Option<&str>,
+    turns: u32,
 ) -> Result<Vec<u8>, Refusal>
-    ensures given { IfOk result (λ v. IsFirstInput (F.bytes_of files.now) arguments.now.input arguments.now.steps v.items) }
-    ensures refused { IfErr result (λ r. IsFileRefusal r ⊎ IsLongInput (F.bytes_of files.now) arguments.now.input r) }
+    ensures given { IfOk result (λ v. IsFirstInput (F.bytes_of files.now) name.entry turns v.items) }
+    ensures refused { IfErr result (λ r. IsFileRefusal r ⊎ IsLongInput (F.bytes_of files.now) name.entry r) }
 {
-    match arguments.input {
-        Some(file) => read_console(files, alloc, file, arguments.steps),
+    match name {
+        Some(file) => read_console(files, alloc, file, turns),
         None => Ok(Vec::new(alloc)),
     }
 }

@@ -18,7 +18,7 @@ use crate::line_fault::{LineDefect, LineFault, line_defect};
 use crate::refusal_report::RefusalReport;
 use rvm_arguments::{
     Arguments, AsmArguments, AuditJournalsArguments, DisArguments, GuestArguments, HostArguments,
-    ReplayArguments, Report, ReportArguments, RunArguments, ScriptArguments,
+    OrdersArguments, ReplayArguments, Report, ReportArguments, RunArguments, ScriptArguments,
 };
 use rvm_asm::{AsmError, assemble};
 use rvm_elf::read_image;
@@ -45,6 +45,7 @@ impl<'b, F: NamedFiles> Refusing<'b, F> {
     {
         match arguments {
             Arguments::Run(run) => self.find_in_run(run),
+            Arguments::Orders(orders) => self.find_in_orders(orders),
             Arguments::Asm(asm) => self.find_in_asm(asm),
             Arguments::Dis(dis) => self.find_in_dis(dis),
             Arguments::Debug(debug) => self.find_in_guest(&debug.guest),
@@ -65,7 +66,7 @@ impl<'b, F: NamedFiles> Refusing<'b, F> {
         if let Some(found) = self.find_in_image(&run.guest) {
             return Some(found);
         }
-        if let Some(found) = self.find_in_input(run) {
+        if let Some(found) = self.find_in_input(run.input, run.steps) {
             return Some(found);
         }
         if let Some(found) = self.find_in_symbols(run) {
@@ -77,16 +78,29 @@ impl<'b, F: NamedFiles> Refusing<'b, F> {
         self.find_outside(&run.guest)
     }
 
-    /// What is wrong with the file of the bytes for the console of `run`, if it has one.
-    #[tactic(auto, using(crate::proofs::Told::unreadable_is_true))]
-    fn find_in_input<'a>(&self, run: &RunArguments<'a>) -> Option<Found<'a>>
+    /// What is wrong with the files of `run --orders`.
+    fn find_in_orders<'a>(&self, orders: &OrdersArguments<'a>) -> Option<Found<'a>>
         ensures { IfSome result (IsTrue (F.bytes_of self.now.files.now)) }
     {
-        let file = run.input?;
-        if run.steps > MAX_FILE_SIZE {
+        if let Some(found) = self.find_in_image(&orders.guest) {
+            return Some(found);
+        }
+        if let Some(found) = self.find_in_input(orders.input, orders.steps) {
+            return Some(found);
+        }
+        self.find_outside(&orders.guest)
+    }
+
+    /// What is wrong with the file of the bytes for the console of a run of at most this many turns, if it has one.
+    #[tactic(auto, using(crate::proofs::Told::unreadable_is_true))]
+    fn find_in_input<'a>(&self, input: Option<&'a str>, turns: u32) -> Option<Found<'a>>
+        ensures { IfSome result (IsTrue (F.bytes_of self.now.files.now)) }
+    {
+        let file = input?;
+        if turns > MAX_FILE_SIZE {
             return self.find_in_file(file, MAX_FILE_SIZE);
         }
-        self.found(file, unreadable(self.files, self.alloc, file, run.steps))
+        self.found(file, unreadable(self.files, self.alloc, file, turns))
     }
 
     /// What is wrong with the file of the symbols of `run`, if it has one.

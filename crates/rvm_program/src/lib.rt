@@ -4,7 +4,7 @@
 //! Stands on the commands and `clap`, and reaches files through the runtime or another `NamedFiles` alone,
 //! so that another program can call what `rvmove` does.
 //!
-//! To be read in this order: `perform`, `commands`, `journals`, `images`, `files`; how a refusal is explained, `file_fault`, `headers`,
+//! To be read in this order: `perform`, `commands`, `orders`, `journals`, `images`, `files`; how a refusal is explained, `file_fault`, `headers`,
 //! `image_parts`, `line_fault`, `defect`, `found`, `refusal_report`, `finding`, `unfound`, `explaining`; `system`,
 //! `descriptors`, `words`.
 #![tactic(auto)]
@@ -29,6 +29,7 @@ mod image_parts;
 mod images;
 mod journals;
 mod line_fault;
+mod orders;
 mod refusal_report;
 mod system;
 mod unfound;
@@ -387,6 +388,13 @@ where
 {
     match arguments {
         Arguments::Run(arguments) => commands::run::<M, F, O, E>(
+            rt.alloc(),
+            files,
+            arguments,
+            output,
+            errors,
+        ),
+        Arguments::Orders(arguments) => orders::run_orders::<M, F, O, E>(
             rt.alloc(),
             files,
             arguments,

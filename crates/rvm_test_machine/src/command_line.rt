@@ -13,7 +13,7 @@ fn options_have_defaults(rt: HostRuntime) -> Result<(), Fail> {
             assert_numbers(&rt, &run, [1, 256, 1_000_000]);
             assert_eq!(rt; run.guest.image, "guest.bin");
             assert!(rt; run.guest.raw);
-            assert!(rt; run.input.is_none());
+            assert!(rt; run.input.is_none() && run.seed.is_none());
         }
         other => panic!(rt; "{other:?}"),
     }
@@ -33,12 +33,15 @@ fn options_reach_their_limits(rt: HostRuntime) -> Result<(), Fail> {
         "1000000000",
         "--input",
         "keys.txt",
+        "--order",
+        "4294967295",
     ];
     match parse_args(rt.alloc(), &words)?.arguments {
         Arguments::Run(run) => {
             assert_numbers(&rt, &run, [8, 4096, 1_000_000_000]);
             assert!(rt; !run.guest.raw);
             assert_eq!(rt; run.input, Some("keys.txt"));
+            assert_eq!(rt; run.seed, Some(u32::MAX));
         }
         other => panic!(rt; "{other:?}"),
     }

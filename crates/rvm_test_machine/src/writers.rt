@@ -132,6 +132,7 @@ fn a_run_writes_in_large_pieces_and_before_it_ends(rt: HostRuntime) -> Result<()
         stop_at_fault: false,
         trace: None,
         report: None,
+        seed: None,
     };
     let mut falling = Vec::new(alloc);
     for number in (1..=10_000u32).rev() {
@@ -177,6 +178,7 @@ fn a_failed_write_of_a_run_is_told(rt: HostRuntime) -> Result<(), Fail> {
         stop_at_fault: false,
         trace: None,
         report: None,
+        seed: None,
     };
     let letters = bytes_of(alloc, &LETTERS)?;
     // The output fails in the middle of a piece, or at once.

@@ -70,6 +70,7 @@ pub fn to_run() -> RunArguments<'static> {
         stop_at_fault: false,
         trace: None,
         report: None,
+        seed: None,
     }
 }
 

@@ -11,6 +11,13 @@ returns-in-Run-clause-untold g c =
     HasEnded (g.F.NamedFiles.bytes_of c.args.files.now) (g.F.NamedFiles.created_of c.args.files.now) a status
     (g.I.Read.remaining c.args.input.now) output errors)))) (sym c.in-Run.is) c.run.ensures.untold
 
+pub returns-in-Orders-clause-untold : goal.returns-in-Orders-clause-untold
+returns-in-Orders-clause-untold g c =
+    let output = written (g.O.Write.contents c.args.output.now) (g.O.Write.contents c.run_orders.new.output) in
+    subst (λ a. IfOk c.run_orders.result (λ told. OnErr told (ToTell (λ status errors.
+    HasEnded (g.F.NamedFiles.bytes_of c.args.files.now) (g.F.NamedFiles.created_of c.args.files.now) a status
+    (g.I.Read.remaining c.args.input.now) output errors)))) (sym c.in-Orders.is) c.run_orders.ensures.untold
+
 pub returns-in-Debug-clause-untold : goal.returns-in-Debug-clause-untold
 returns-in-Debug-clause-untold g c =
     let output = written (g.O.Write.contents c.args.output.now) (g.O.Write.contents c.debug.new.output) in

@@ -9,7 +9,7 @@ invariant-loop-turn g l =
       next : l.next ≤ length l.input;
       turn : l.turn ≤ l.asked.steps;
       sized : length l.counts ≡ length l.fn.counts;
-      turned : Turned l.asked.stop_at_fault l.asked.traced l.input l.fn.guest l.guest l.turn l.end (drop l.next l.input) l.traps l.counts l.buffer (g.W.Write.contents l.fn.writer) (g.W.Write.contents l.writer) (g.T.Write.contents l.fn.trace) (g.T.Write.contents l.trace);
+      turned : Turned l.asked.seed l.asked.stop_at_fault l.asked.traced l.input l.fn.guest l.guest l.turn l.end (drop l.next l.input) l.traps l.counts l.buffer (g.W.Write.contents l.fn.writer) (g.W.Write.contents l.writer) (g.T.Write.contents l.fn.trace) (g.T.Write.contents l.trace);
     }
 
 abbrev pub decreases-loop-turn : goal.decreases-loop-turn
