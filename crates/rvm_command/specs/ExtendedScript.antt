@@ -10,15 +10,15 @@ use Rattle.rvm_board.specs.Turns.{AfterTurns, after_turns}
 use Rattle.rvm_debug.specs.Script.{Answers, Replied, answers_behind, done_by, ended}
 use Rattle.rvm_command.specs.declared.extended_line.ExtendedLine.{ExtendedLine}
 use Rattle.rvm_command.specs.declared.extended_line.ExtendedLine.TheVariants as line
+use Rattle.rvm_command.specs.declared.fault.Fault.{Fault}
 use Rattle.rvm_command.specs.ExtendedAnswers.{csrs_answer, devices_text, turns_text}
 use Rattle.rvm_command.specs.ExtendedLines.{extended_line_of}
-use Rattle.rvm_command.specs.declared.fault.Fault.{Fault}
 use Rattle.rvm_command.specs.Faults.{Shown, first_fault}
 use Rattle.rvm_command.specs.FaultTexts.{fault_text}
 use Rattle.rvm_command.specs.Taken.{Taken, steps_in}
 use Rattle.rvm_command.specs.Watched.{turns_until}
 
--- what a line leaves and answers, and how many turns the lines `turns` have made so far
+-- what a line leaves and answers, and how many turns the lines `turns` and `find-fault` have made so far
 pub record Extended : Type 0 where
   pub replied : Replied
   pub turns : ℕ
@@ -87,7 +87,7 @@ extended_done_by line.Devices t g = record { replied = tells g (devices_text (st
 extended_done_by (line.Turns n) t g = turns_done n t g
 extended_done_by (line.FindFault n) t g = find_done n t g
 
--- what a session leaves and answers, as a script does, and how many turns its lines `turns` have made
+-- what a session leaves and answers, as a script does, and how many turns its lines `turns` and `find-fault` have made
 pub record Session : Type 0 where
   pub told : Answers
   pub turns : ℕ
