@@ -97,8 +97,8 @@ goes_on (reply.Refused why) latest f shows = refl
 
 -- ---- turns so far
 
--- so many turns from turn t on, none of which ended the search: the pages that they wrote; that more turns go on after
--- them; their steps, the latest first; what is known of each hart's latest step; and that they show no fault
+-- turns from turn t on, none of which ended the search: the pages that they wrote; that more turns go on after them; their
+-- steps, the latest first; what is known of each hart's latest step; and that they show no fault
 pub record Searched (t : ℕ) (start now : GuestState) (made : ℕ) (latest : List (Option Fault)) : Type 0 where
   pub pages : List ℕ
   pub log : now.dirty ≡ mark_all pages start.dirty

@@ -102,7 +102,7 @@ fn search<M: Memory, W: Write>(
     Ok(after)
 }
 
-/// The hart whose turn is turn `turn`, of so many.
+/// The hart that takes turn `turn`, of this many harts.
 pub(crate) fn hart_of_turn(turn: u64, harts: u32) -> u32
     requires { 0 < harts }
     ensures hart { result ≡ turn % harts }

@@ -70,7 +70,7 @@ impl Turn {
         self.stop.is_some() || self.fault.is_some()
     }
 
-    /// The search whose last turn, one of so many, was this one.
+    /// The search that made this many turns, of which this one was the last.
     fn as_last_of(self, made: u32) -> Search
         ensures { result ≡ record { turns = record { made = made; stop = self.stop }; fault = self.fault } }
     {

@@ -91,7 +91,7 @@ module _ (old mid new : Option (List ℕ)) (line : List ℕ) where
         let (ended, left) = subst (λ o. IfSome o (GivesByte None new)) known none in
         whole ∙ ap (λ l. line ++ l) ended ∙ ap (λ l. l ++ []) empty
 
--- so many plain bytes are more than a line may have
+-- more bytes without a line feed than a line may have
 pub too_long : (old mid : Option (List ℕ)) (line : List ℕ) → AreRead old mid line → 4096 < length line → IfSome old IsLongLine
 too_long old mid line so_far many = go old so_far.whole where
   go : (o : Option (List ℕ)) → IfSome o (λ bytes. (rest : List ℕ) × (mid ≡ Some rest) × (bytes ≡ line ++ rest)) → IfSome o IsLongLine

@@ -13,7 +13,7 @@ journal_name x [] = codes "no journal"
 journal_name x (f ∷ fs) =
     if is_wanted (OfHost x) (header_at f.bytes.items) then f.name.now else journal_name x fs
 
--- how many of so many events of the journal in a file are in order
+-- how many events of the journal in a file are in order, of all that it has
 abbrev pub place_text : (place count : ℕ) → (name : List ℕ) → List ℕ
 place_text place count name =
     codes ": " ++ decimal place ++ codes " of " ++ decimal count ++ codes " events in order (" ++ name ++ codes ")" ++ codes "\n"

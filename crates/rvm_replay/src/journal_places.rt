@@ -64,7 +64,7 @@ fn write_place<M: PagedMemory + Drop, E: Write>(
     write_text(place, count, name, errors)
 }
 
-/// Writes how many of so many events of the journal in a file are in order.
+/// Writes how many events of the journal in a file are in order, and that it has `count`.
 fn write_text<E: Write>(
     place: usize,
     count: u32,
