@@ -5,10 +5,10 @@ use Rattle.std.proofs.lemmas.Bool.Decides.{nat_tests}
 use Rattle.std.proofs.lemmas.List.{map_push, get_or_append_left, get_or-append-add}
 use Rattle.std.proofs.str.Laws.{order}
 use Rattle.rvm_text.specs.Lexemes.{Lexeme}
-use Rattle.rvm_asm_line.specs.declared.faults.Fault.{Fault}
-use Rattle.rvm_asm_line.specs.Statements.{label_of, next_place}
-use Rattle.rvm_asm_line.specs.Values.{Names}
-use Rattle.rvm_asm_line.proofs.Ends.{ends}
+use Rattle.rvm_asm.specs.declared.faults.Fault.{Fault}
+use Rattle.rvm_asm.specs.Statements.{label_of, next_place}
+use Rattle.rvm_asm.specs.Values.{Names}
+use Rattle.rvm_asm.proofs.Ends.{ends}
 use Rattle.rvm_asm.specs.declared.image.Segment.{Segment}
 use Rattle.rvm_asm.specs.Images.{Piece, piece, size, in_piece, byte_at, or_else, piece_of, pieces_of}
 use Rattle.rvm_asm.specs.Assembly.{BytesOf, IsImageTo, IsImage, IsLaid, line_at}

@@ -4,12 +4,12 @@ use Rattle.std.specs.Prelude.{◌⊎◌, false}
 use Rattle.std.specs.Option.{is_some}
 use denote.Ref.{Bor}
 use Rattle.rvm_text.specs.Lexemes.{Lexeme}
-use Rattle.rvm_asm_line.specs.declared.faults.Fault.{Fault}
-use Rattle.rvm_asm_line.specs.declared.faults.LineError.{LineError}
-use Rattle.rvm_asm_line.specs.declared.faults.LineError.TheVariants.{OutOfMemory, Faulty}
-use Rattle.rvm_asm_line.specs.Contents.{bytes_at}
-use Rattle.rvm_asm_line.specs.Values.{Names}
-use Rattle.rvm_asm_line.specs.Views.{Gives}
+use Rattle.rvm_asm.specs.declared.faults.Fault.{Fault}
+use Rattle.rvm_asm.specs.declared.faults.LineError.{LineError}
+use Rattle.rvm_asm.specs.declared.faults.LineError.TheVariants.{OutOfMemory, Faulty}
+use Rattle.rvm_asm.specs.Contents.{bytes_at}
+use Rattle.rvm_asm.specs.Values.{Names}
+use Rattle.rvm_asm.specs.LineViews.{Gives}
 use Rattle.rvm_asm.specs.declared.error.AsmError.{AsmError}
 use Rattle.rvm_asm.specs.declared.error.AsmError.TheVariants as asm_error
 use Rattle.rvm_asm.specs.Assembly.{BytesOf, IsLaid, line_at, statement_of}

@@ -3,11 +3,11 @@ use Rattle.std.proofs.Common.{◌≡◌, ℕ, ◌+◌, ◌<◌, List, [], length
 use Rattle.std.specs.Prelude.{◌⊎◌, IsSome}
 use Rattle.std.specs.Str.Lines.{lines}
 use Rattle.rvm_text.specs.Lexemes.{Lexeme, lexemes}
-use Rattle.rvm_asm_line.specs.declared.faults.Fault.{Fault}
-use Rattle.rvm_asm_line.specs.Contents.{bytes_at}
-use Rattle.rvm_asm_line.specs.Reading.{◌>>=◌}
-use Rattle.rvm_asm_line.specs.Statements.{Definition, label_of, next_place, equ_at}
-use Rattle.rvm_asm_line.specs.Values.{Names}
+use Rattle.rvm_asm.specs.declared.faults.Fault.{Fault}
+use Rattle.rvm_asm.specs.Contents.{bytes_at}
+use Rattle.rvm_asm.specs.Reading.{◌>>=◌}
+use Rattle.rvm_asm.specs.Statements.{Definition, label_of, next_place, equ_at}
+use Rattle.rvm_asm.specs.Values.{Names}
 use Rattle.rvm_asm.specs.Images.{Piece}
 use Rattle.rvm_asm.specs.Assembly.{line_at, statement_of, Takes, Lays, AreRead, BytesOf, IsLaid, IsLaidTo, IsImage, IsImageTo}
 use Rattle.rvm_asm.specs.Pieces.{IsWithin}

@@ -5,16 +5,16 @@ use Rattle.std.proofs.lemmas.Bool.Decides.{nat_tests}
 use Rattle.std.proofs.lemmas.List.{get_or_append_left, get_or_at}
 use Rattle.std.proofs.str.Laws.{order}
 use Rattle.rvm_text.specs.Lexemes.{Lexeme}
-use Rattle.rvm_asm_line.specs.declared.faults.Fault.{Fault}
-use Rattle.rvm_asm_line.specs.Reading.{◌>>=◌}
-use Rattle.rvm_asm_line.specs.Values.{Names}
-use Rattle.rvm_asm_line.specs.Statements.{Definition, label_of, next_place, equ_at}
+use Rattle.rvm_asm.specs.declared.faults.Fault.{Fault}
+use Rattle.rvm_asm.specs.Reading.{◌>>=◌}
+use Rattle.rvm_asm.specs.Values.{Names}
+use Rattle.rvm_asm.specs.Statements.{Definition, label_of, next_place, equ_at}
 use Rattle.rvm_asm.specs.Assembly.{Takes, Lays, IsLaidTo, line_at}
 use Rattle.rvm_asm.specs.Views.{IsDefining, IsLaying}
 use Rattle.rvm_asm.specs.Refusals.{IsTwice, IsUnplaced, IsErrorOf, error_at, defined_at}
-use Rattle.rvm_asm_line.specs.declared.faults.LineError.{LineError}
-use Rattle.rvm_asm_line.specs.declared.faults.LineError.TheVariants.{OutOfMemory, Faulty}
-use Rattle.rvm_asm_line.specs.Views.{names_of}
+use Rattle.rvm_asm.specs.declared.faults.LineError.{LineError}
+use Rattle.rvm_asm.specs.declared.faults.LineError.TheVariants.{OutOfMemory, Faulty}
+use Rattle.rvm_asm.specs.LineViews.{names_of}
 use Rattle.std.specs.BTreeMap.{BTreeMap, IsEmpty, is_at}
 use Rattle.std.specs.Map.{lookup}
 use Rattle.std.specs.Cmp.Lexicographic.{slice_cmp}

@@ -1,3 +1,9 @@
+pub mod Ends
+mod Examples
+pub mod Expressions
+pub mod Lists
+pub mod Parts
+pub mod Shapes
 pub mod Bytes
 pub mod Claims
 pub mod Faultless

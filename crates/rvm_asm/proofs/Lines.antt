@@ -5,9 +5,9 @@ use Rattle.std.specs.Str.Lines.{lines}
 use denote.Ref.{Bor}
 use Rattle.std.proofs.lemmas.List.{get_or-map, length-map}
 use Rattle.rvm_text.specs.Lexemes.{Lexeme, lexemes}
-use Rattle.rvm_asm_line.specs.declared.faults.LineError.{LineError}
-use Rattle.rvm_asm_line.specs.declared.faults.LineError.TheVariants.{OutOfMemory, Faulty}
-use Rattle.rvm_asm_line.specs.Values.{Names}
+use Rattle.rvm_asm.specs.declared.faults.LineError.{LineError}
+use Rattle.rvm_asm.specs.declared.faults.LineError.TheVariants.{OutOfMemory, Faulty}
+use Rattle.rvm_asm.specs.Values.{Names}
 use Rattle.rvm_asm.specs.declared.error.AsmError.{AsmError}
 use Rattle.rvm_asm.specs.Assembly.{AreRead, line_at}
 use Rattle.rvm_asm.specs.Refusals.{IsError, IsErrorOf, IsReadError, error_at}

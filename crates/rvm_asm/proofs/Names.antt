@@ -5,17 +5,17 @@ use Rattle.std.specs.Str.{bytes_eq}
 use Rattle.std.proofs.lemmas.Slice.Eq.{bytes_eq-Decides}
 use Rattle.rvm_text.specs.Lexemes.{Lexeme, Word, Mark, Quoted}
 use Rattle.rvm_text.specs.Tokens.{is_name}
-use Rattle.rvm_asm_line.specs.declared.faults.Fault.{Fault}
-use Rattle.rvm_asm_line.specs.declared.faults.Fault.TheVariants.{UnknownName, OutOfReach}
-use Rattle.rvm_asm_line.specs.declared.statements.Keyword.{Keyword}
-use Rattle.rvm_asm_line.specs.declared.statements.Keyword.TheVariants as k
-use Rattle.rvm_asm_line.specs.declared.statements.Code.{Code}
-use Rattle.rvm_asm_line.specs.declared.statements.Code.TheVariants as c
-use Rattle.rvm_asm_line.specs.declared.values.Half.{Half}
-use Rattle.rvm_asm_line.specs.Reading.{◌>>=◌, known, only_if, ended, register_comma}
-use Rattle.rvm_asm_line.specs.Values.{Names, value_at, simple_at, sum_at, number_at, last_value, half_at, chosen, closed}
-use Rattle.rvm_asm_line.specs.Instructions.{li_at, li_size}
-use Rattle.rvm_asm_line.specs.Statements.{Definition, space_at, balign_at, is_alignment, padding, advanced, size_of, place_after, next_place, statement_at}
+use Rattle.rvm_asm.specs.declared.faults.Fault.{Fault}
+use Rattle.rvm_asm.specs.declared.faults.Fault.TheVariants.{UnknownName, OutOfReach}
+use Rattle.rvm_asm.specs.declared.statements.Keyword.{Keyword}
+use Rattle.rvm_asm.specs.declared.statements.Keyword.TheVariants as k
+use Rattle.rvm_asm.specs.declared.statements.Code.{Code}
+use Rattle.rvm_asm.specs.declared.statements.Code.TheVariants as c
+use Rattle.rvm_asm.specs.declared.values.Half.{Half}
+use Rattle.rvm_asm.specs.Reading.{◌>>=◌, known, only_if, ended, register_comma}
+use Rattle.rvm_asm.specs.Values.{Names, value_at, simple_at, sum_at, number_at, last_value, half_at, chosen, closed}
+use Rattle.rvm_asm.specs.Instructions.{li_at, li_size}
+use Rattle.rvm_asm.specs.Statements.{Definition, space_at, balign_at, is_alignment, padding, advanced, size_of, place_after, next_place, statement_at}
 use Rattle.rvm_asm.specs.Assembly.{Takes}
 
 same_bytes : (xs ys : List ℕ) → bytes_eq xs ys ≡ true → xs ≡ ys

@@ -5,8 +5,8 @@ use Rattle.std.specs.Str.{bytes_eq}
 use Rattle.std.specs.Str.Lines.{lines}
 use Rattle.std.proofs.Math.Path.{fun_ext}
 use Rattle.rvm_text.specs.Lexemes.{Lexeme}
-use Rattle.rvm_asm_line.specs.Statements.{Definition, label_of}
-use Rattle.rvm_asm_line.specs.Values.{Names}
+use Rattle.rvm_asm.specs.Statements.{Definition, label_of}
+use Rattle.rvm_asm.specs.Values.{Names}
 use Rattle.rvm_asm.specs.Images.{Piece, byte_at}
 use Rattle.rvm_asm.specs.Pieces.{HasAt, HasSameBytes}
 use Rattle.rvm_asm.proofs.Bytes.{some_is}

@@ -6,9 +6,9 @@ use Rattle.std.specs.Prelude.{codes}
 use Rattle.std.specs.Str.{bytes_eq}
 use Rattle.std.specs.Str.Lines.{lines}
 use Rattle.rvm_text.specs.Lexemes.{Lexeme, lexemes}
-use Rattle.rvm_asm_line.specs.Contents.{bytes_at}
-use Rattle.rvm_asm_line.specs.Statements.{Definition, label_of, next_place, equ_at}
-use Rattle.rvm_asm_line.specs.Values.{Names}
+use Rattle.rvm_asm.specs.Contents.{bytes_at}
+use Rattle.rvm_asm.specs.Statements.{Definition, label_of, next_place, equ_at}
+use Rattle.rvm_asm.specs.Values.{Names}
 use Rattle.rvm_asm.specs.Images.{Piece, byte_at}
 use Rattle.rvm_asm.specs.Pieces.{HasAt, IsWithin, HasSameBytes}
 

@@ -1,3 +1,16 @@
+pub mod Contents
+pub mod Csrs
+pub mod Grammar
+pub mod Instructions
+pub mod Laws
+pub mod Operands
+pub mod Operations
+pub mod Reading
+pub mod Statements
+pub mod Values
+pub mod LineViews
+pub mod Words
+pub mod LineRefusals
 pub mod Images
 pub mod Assembly
 pub mod Pieces

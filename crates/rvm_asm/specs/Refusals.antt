@@ -3,17 +3,17 @@ use Rattle.std.specs.Prelude.{◌≡◌, ℕ, zero, suc, ◌+◌, ◌^◌, ◌<�
 use Rattle.std.specs.Prelude.{slice_index, slice_index_or, IsSome, [], ◌⊎◌, Bool, true, false, IsTrue, IsFalse}
 use Rattle.std.specs.Str.Lines.{lines}
 use Rattle.rvm_text.specs.Lexemes.{Lexeme, lexemes}
-use Rattle.rvm_asm_line.specs.declared.faults.Fault.{Fault}
-use Rattle.rvm_asm_line.specs.declared.faults.Fault.TheVariants.{BadToken, Defined, Overlap}
-use Rattle.rvm_asm_line.specs.declared.faults.LineError.{LineError}
-use Rattle.rvm_asm_line.specs.declared.faults.LineError.TheVariants as line_error
-use Rattle.rvm_asm_line.specs.Contents.{bytes_at}
-use Rattle.rvm_asm_line.specs.Reading.{◌>>=◌}
-use Rattle.rvm_asm_line.specs.Statements.{Definition, label_of, next_place, equ_at}
-use Rattle.rvm_asm_line.specs.Values.{Names}
+use Rattle.rvm_asm.specs.declared.faults.Fault.{Fault}
+use Rattle.rvm_asm.specs.declared.faults.Fault.TheVariants.{BadToken, Defined, Overlap}
+use Rattle.rvm_asm.specs.declared.faults.LineError.{LineError}
+use Rattle.rvm_asm.specs.declared.faults.LineError.TheVariants as line_error
+use Rattle.rvm_asm.specs.Contents.{bytes_at}
+use Rattle.rvm_asm.specs.Reading.{◌>>=◌}
+use Rattle.rvm_asm.specs.Statements.{Definition, label_of, next_place, equ_at}
+use Rattle.rvm_asm.specs.Values.{Names}
 use Rattle.rvm_refusal.specs.declared.refusal.Refusal.{Refusal}
 use Rattle.rvm_refusal.specs.declared.refusal.Refusal.TheVariants as refusal
-use Rattle.rvm_asm_line.specs.Refusals.{refusal_of_fault}
+use Rattle.rvm_asm.specs.LineRefusals.{refusal_of_fault}
 use Rattle.rvm_asm.specs.declared.error.AsmError.{AsmError}
 use Rattle.rvm_asm.specs.declared.error.AsmError.TheVariants.{OutOfMemory, Line, TooLarge, TooMany}
 use Rattle.rvm_asm.specs.Assembly.{statement_of, line_at, IsLaidTo, IsLaid, IsImageTo, IsImage, IsAssembly}

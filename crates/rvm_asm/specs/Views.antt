@@ -4,13 +4,13 @@ use Rattle.std.specs.Prelude.{length, unwrap_or, None, Some}
 use denote.Ref.{Bor}
 use Rattle.std.specs.BTreeMap.{BTreeMap}
 use Rattle.rvm_text.specs.Lexemes.{Lexeme, lexemes}
-use Rattle.rvm_asm_line.specs.declared.faults.LineError.{LineError}
-use Rattle.rvm_asm_line.specs.declared.faults.LineError.TheVariants as line_error
-use Rattle.rvm_asm_line.specs.declared.faults.Fault.{Fault}
-use Rattle.rvm_asm_line.specs.declared.faults.Fault.TheVariants.{BadToken, Defined, Overlap}
-use Rattle.rvm_asm_line.specs.Contents.{bytes_at}
-use Rattle.rvm_asm_line.specs.Statements.{Definition}
-use Rattle.rvm_asm_line.specs.Values.{Names}
+use Rattle.rvm_asm.specs.declared.faults.LineError.{LineError}
+use Rattle.rvm_asm.specs.declared.faults.LineError.TheVariants as line_error
+use Rattle.rvm_asm.specs.declared.faults.Fault.{Fault}
+use Rattle.rvm_asm.specs.declared.faults.Fault.TheVariants.{BadToken, Defined, Overlap}
+use Rattle.rvm_asm.specs.Contents.{bytes_at}
+use Rattle.rvm_asm.specs.Statements.{Definition}
+use Rattle.rvm_asm.specs.Values.{Names}
 use Rattle.rvm_asm.specs.declared.image.Segment.{Segment}
 use Rattle.rvm_asm.specs.Images.{Piece, piece}
 use Rattle.rvm_asm.specs.declared.extents.Extent.{Extent}

@@ -2,7 +2,7 @@
 
 ghost use Rattle.std.specs.Prelude.{◌≡◌, IfOk, IfErr, OnOk, All, map};
 ghost use Rattle.std.specs.Str.Lines.{lines};
-ghost use Rattle.rvm_asm_line.specs.Views.{names_of};
+ghost use Rattle.rvm_asm.specs.LineViews.{names_of};
 ghost use Rattle.rvm_asm.specs.Assembly.{entry_of, AreRead, IsAssemblyOf, IsAssembly};
 ghost use Rattle.rvm_asm.specs.Refusals.{AreFew, IsErrorOf, IsError, IsSmall};
 ghost use Rattle.rvm_asm.specs.Views.{lines_of, texts_of, HasNoZeros};
@@ -13,8 +13,8 @@ use crate::filling::fill;
 use crate::image::Image;
 use crate::layout::lay_out;
 use crate::placing::place_lines;
-use crate::reading::check_lines;
-use rvm_asm_line::{Symbols, lookup};
+use crate::line_tokens::check_lines;
+use crate::symbols::{Symbols, lookup};
 use std::alloc::{AllocError, Global};
 
 /// Assembles a text into an image. Lines end with a line feed; a carriage return before it is not part of the line.

@@ -3,7 +3,7 @@
 ghost use Rattle.std.specs.Prelude.{◌≡◌};
 ghost use Rattle.rvm_asm.specs.Refusals.{error_at, refusal_of};
 
-use rvm_asm_line::{Fault, LineError};
+use crate::faults::{Fault, LineError};
 use rvm_refusal::Refusal;
 use std::alloc::AllocError;
 use thiserror::Error;

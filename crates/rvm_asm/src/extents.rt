@@ -5,7 +5,7 @@ ghost use Rattle.rvm_asm.specs.Pieces.{IsFree, IsTaken};
 ghost use Rattle.rvm_asm.specs.Refusals.{AreSeparate};
 ghost use Rattle.rvm_asm.specs.Views.{extent_pieces, is_apart, Holds, IsClaim};
 
-use rvm_asm_line::{Fault, LineError};
+use crate::faults::{Fault, LineError};
 use std::collections::BTreeMap;
 
 /// The most segments of an image that can be written to a file.

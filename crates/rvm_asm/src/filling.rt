@@ -1,7 +1,7 @@
 //! The last pass: the bytes of each line in the segments of an image.
 
 ghost use Rattle.std.specs.Prelude.{◌≡◌, ◌<◌, length, All, IfOk};
-ghost use Rattle.rvm_asm_line.specs.Views.{names_of};
+ghost use Rattle.rvm_asm.specs.LineViews.{names_of};
 ghost use Rattle.rvm_asm.specs.Images.{IsRising, pieces_of};
 ghost use Rattle.rvm_asm.specs.Assembly.{AreRead, BytesOf, IsLaid, IsImage};
 ghost use Rattle.rvm_asm.specs.Views.{line_bytes, lines_of, texts_of, ArePlaced, HasNoZeros};
@@ -10,7 +10,7 @@ use crate::extents::Extents;
 use crate::image::Segment;
 use crate::placing;
 use crate::segments::append;
-use rvm_asm_line::Symbols;
+use crate::symbols::Symbols;
 use std::alloc::{AllocError, Global};
 
 /// Makes the segments of lines whose extents are known. Extents that touch become one segment. Fails only if memory

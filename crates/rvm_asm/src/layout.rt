@@ -3,16 +3,16 @@
 ghost use Rattle.std.specs.Prelude.{◌≤◌, ◌^◌, IfOk, IfErr, IsSome};
 ghost use Rattle.rvm_text.specs.Lexemes.{lexemes};
 ghost use Rattle.rvm_text.specs.Tokens.{lexemes_of};
-ghost use Rattle.rvm_asm_line.specs.Views.{names_of, definition_of};
+ghost use Rattle.rvm_asm.specs.LineViews.{names_of, definition_of};
 ghost use Rattle.rvm_asm.specs.Assembly.{AreRead, IsLaid};
 ghost use Rattle.rvm_asm.specs.Refusals.{IsErrorOf};
 ghost use Rattle.rvm_asm.specs.Views.{line_of, lines_of, texts_of, IsDefining, IsLaying};
 
 use crate::error::AsmError;
-use crate::reading::read_line;
-use rvm_asm_line::{
-    Fault, LineError, Symbol, Symbols, definition, insert, label, lookup, next_place,
-};
+use crate::line_tokens::read_line;
+use crate::faults::{Fault, LineError};
+use crate::statements::{definition, label, next_place};
+use crate::symbols::{Symbol, Symbols, insert, lookup};
 use rvm_text::Token;
 use std::alloc::Global;
 

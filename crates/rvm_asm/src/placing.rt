@@ -2,8 +2,8 @@
 
 ghost use Rattle.std.specs.Prelude.{◌≡◌, ◌+◌, ◌<◌, ◌≤◌, ◌^◌, ℕ, List, length, slice_index, IfOk, IfErr, OnOk, IsSome};
 ghost use Rattle.rvm_text.specs.Lexemes.{lexemes};
-ghost use Rattle.rvm_asm_line.specs.Contents.{bytes_at};
-ghost use Rattle.rvm_asm_line.specs.Views.{names_of, Gives};
+ghost use Rattle.rvm_asm.specs.Contents.{bytes_at};
+ghost use Rattle.rvm_asm.specs.LineViews.{names_of, Gives};
 ghost use Rattle.rvm_asm.specs.Assembly.{line_at, statement_of, AreRead, IsLaid};
 ghost use Rattle.rvm_asm.specs.Refusals.{count_at, count_to, error_at, IsErrorOf, IsSizeError};
 ghost use Rattle.rvm_asm.specs.Views.{extent_pieces, line_of, lines_of, texts_of, ArePlaced, Holds, IsRoom};
@@ -11,8 +11,11 @@ ghost use Rattle.rvm_asm.specs.Views.{extent_pieces, line_of, lines_of, texts_of
 use crate::error::AsmError;
 use crate::extents::{Extents, are_many, claim};
 use crate::image::MAX_BYTES;
-use crate::reading::read_line;
-use rvm_asm_line::{LineError, Symbols, contents, label};
+use crate::line_tokens::read_line;
+use crate::content::contents;
+use crate::faults::LineError;
+use crate::statements::label;
+use crate::symbols::Symbols;
 use std::alloc::Global;
 
 /// Finds where the bytes of all lines stand. Fails with the first line that has a fault, counted from 1, or if memory

@@ -1,7 +1,7 @@
 -- What is reported if a command is refused.
 use Rattle.std.specs.Prelude.{ℕ, List, ◌++◌, Option, Some, None, codes}
 use Rattle.std.specs.Io.KnownBytes.{Appends}
-use Rattle.rvm_asm_line.specs.Refusals.{refusal_of_fault}
+use Rattle.rvm_asm.specs.LineRefusals.{refusal_of_fault}
 use Rattle.rvm_asm.specs.declared.error.AsmError.{AsmError}
 use Rattle.rvm_asm.specs.declared.error.AsmError.TheVariants as text
 use Rattle.rvm_debug.specs.declared.script.ScriptError.{ScriptError}

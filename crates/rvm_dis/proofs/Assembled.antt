@@ -5,9 +5,9 @@ use Rattle.std.specs.Prelude.{IsSome, codes}
 use Rattle.std.specs.Int.{to_le_bytes, w32}
 use Rattle.std.specs.Str.Lines.{lines}
 use Rattle.rvm_text.specs.Lexemes.{Lexeme, lexemes}
-use Rattle.rvm_asm_line.specs.Contents.{bytes_at}
-use Rattle.rvm_asm_line.specs.Statements.{label_of, next_place, equ_at}
-use Rattle.rvm_asm_line.specs.Values.{Names}
+use Rattle.rvm_asm.specs.Contents.{bytes_at}
+use Rattle.rvm_asm.specs.Statements.{label_of, next_place, equ_at}
+use Rattle.rvm_asm.specs.Values.{Names}
 use Rattle.rvm_asm.specs.Images.{Piece, piece, byte_at}
 use Rattle.rvm_asm.specs.Assembly.{statement_of, line_at, Lays, BytesOf, IsLaid, IsImage, AreRead, IsAssembly}
 use Rattle.rvm_asm.specs.Pieces.{HasAt, IsWithin}

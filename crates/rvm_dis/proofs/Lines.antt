@@ -11,29 +11,29 @@ use Rattle.rvm_text.specs.Registers.{name_of}
 use Rattle.rvm_isa.specs.declared.ins.Ins.{Ins}
 use Rattle.rvm_isa.specs.declared.ins.Ins.TheVariants as ins
 use Rattle.rvm_isa.specs.Words.{word_of}
-use Rattle.rvm_asm_line.specs.declared.operations.Operation.{Operation}
-use Rattle.rvm_asm_line.specs.declared.operations.Operation.TheVariants as operation
-use Rattle.rvm_asm_line.specs.declared.operations.Upper.{Upper}
-use Rattle.rvm_asm_line.specs.declared.operations.Branch.{Branch}
-use Rattle.rvm_asm_line.specs.declared.operations.Load.{Load}
-use Rattle.rvm_asm_line.specs.declared.operations.Store.{Store}
-use Rattle.rvm_asm_line.specs.declared.operations.Immediate.{Immediate}
-use Rattle.rvm_asm_line.specs.declared.operations.Shift.{Shift}
-use Rattle.rvm_asm_line.specs.declared.operations.Register.{Register}
-use Rattle.rvm_asm_line.specs.declared.operations.Whole.{Whole}
-use Rattle.rvm_asm_line.specs.declared.operations.Csr.{Csr}
-use Rattle.rvm_asm_line.specs.declared.operations.CsrImmediate.{CsrImmediate}
-use Rattle.rvm_asm_line.specs.declared.operations.Atomic.{Atomic}
-use Rattle.rvm_asm_line.specs.declared.statements.Code.TheVariants as code
-use Rattle.rvm_asm_line.specs.declared.statements.Keyword.TheVariants as keyword
-use Rattle.rvm_asm_line.specs.declared.grammar.Operand.TheVariants as operand
-use Rattle.rvm_asm_line.specs.Contents.{words_at, list_bytes, value_of_width}
-use Rattle.rvm_asm_line.specs.Grammar.{grammar_at, expressions_at, behind, more_operands_at}
-use Rattle.rvm_asm_line.specs.Instructions.{instruction_at}
-use Rattle.rvm_asm_line.specs.Operations.{ordering, upper_ins, branch_ins, load_ins, store_ins, immediate_ins, shift_ins, register_ins, whole_ins, csr_ins, csr_immediate_ins, atomic_ins}
-use Rattle.rvm_asm_line.specs.Reading.{parts}
-use Rattle.rvm_asm_line.specs.Statements.{label_of, keyword_of, directives}
-use Rattle.rvm_asm_line.specs.Values.{Names}
+use Rattle.rvm_asm.specs.declared.operations.Operation.{Operation}
+use Rattle.rvm_asm.specs.declared.operations.Operation.TheVariants as operation
+use Rattle.rvm_asm.specs.declared.operations.Upper.{Upper}
+use Rattle.rvm_asm.specs.declared.operations.Branch.{Branch}
+use Rattle.rvm_asm.specs.declared.operations.Load.{Load}
+use Rattle.rvm_asm.specs.declared.operations.Store.{Store}
+use Rattle.rvm_asm.specs.declared.operations.Immediate.{Immediate}
+use Rattle.rvm_asm.specs.declared.operations.Shift.{Shift}
+use Rattle.rvm_asm.specs.declared.operations.Register.{Register}
+use Rattle.rvm_asm.specs.declared.operations.Whole.{Whole}
+use Rattle.rvm_asm.specs.declared.operations.Csr.{Csr}
+use Rattle.rvm_asm.specs.declared.operations.CsrImmediate.{CsrImmediate}
+use Rattle.rvm_asm.specs.declared.operations.Atomic.{Atomic}
+use Rattle.rvm_asm.specs.declared.statements.Code.TheVariants as code
+use Rattle.rvm_asm.specs.declared.statements.Keyword.TheVariants as keyword
+use Rattle.rvm_asm.specs.declared.grammar.Operand.TheVariants as operand
+use Rattle.rvm_asm.specs.Contents.{words_at, list_bytes, value_of_width}
+use Rattle.rvm_asm.specs.Grammar.{grammar_at, expressions_at, behind, more_operands_at}
+use Rattle.rvm_asm.specs.Instructions.{instruction_at}
+use Rattle.rvm_asm.specs.Operations.{ordering, upper_ins, branch_ins, load_ins, store_ins, immediate_ins, shift_ins, register_ins, whole_ins, csr_ins, csr_immediate_ins, atomic_ins}
+use Rattle.rvm_asm.specs.Reading.{parts}
+use Rattle.rvm_asm.specs.Statements.{label_of, keyword_of, directives}
+use Rattle.rvm_asm.specs.Values.{Names}
 use Rattle.rvm_dis.specs.Pieces.{hex, short_hex, target, ordered}
 use Rattle.rvm_dis.specs.Texts.{upper_text, jump_text, branch_text, access_text, immediate_text, shift_text, registers_text, csr_text, csr_immediate_text, load_reserved_text, atomic_text, word_text}
 use Rattle.rvm_dis.specs.Assembles.{Assembles}

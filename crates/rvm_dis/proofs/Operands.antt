@@ -10,13 +10,13 @@ use Rattle.rvm_text.specs.Lexemes.{Lexeme, Word, Mark}
 use Rattle.rvm_text.specs.Numbers.{number_of}
 use Rattle.rvm_text.specs.Registers.{register_of, name_of, abi_names, numbered_names}
 use Rattle.rvm_text.specs.Tokens.{is_name}
-use Rattle.rvm_asm_line.specs.Csrs.{csr_of, csr_numbers, csr_comma}
-use Rattle.rvm_asm_line.specs.declared.grammar.Operand.{Operand}
-use Rattle.rvm_asm_line.specs.declared.grammar.Operand.TheVariants as operand
-use Rattle.rvm_asm_line.specs.Grammar.{any_names, behind, more_operands_at}
-use Rattle.rvm_asm_line.specs.Operands.{signed_field, offset_field, distance, last_target, last_immediate, last_below}
-use Rattle.rvm_asm_line.specs.Reading.{◌>>=◌, register_comma, last_register, last_address}
-use Rattle.rvm_asm_line.specs.Values.{Names, value_at, last_value, fits_signed}
+use Rattle.rvm_asm.specs.Csrs.{csr_of, csr_numbers, csr_comma}
+use Rattle.rvm_asm.specs.declared.grammar.Operand.{Operand}
+use Rattle.rvm_asm.specs.declared.grammar.Operand.TheVariants as operand
+use Rattle.rvm_asm.specs.Grammar.{any_names, behind, more_operands_at}
+use Rattle.rvm_asm.specs.Operands.{signed_field, offset_field, distance, last_target, last_immediate, last_below}
+use Rattle.rvm_asm.specs.Reading.{◌>>=◌, register_comma, last_register, last_address}
+use Rattle.rvm_asm.specs.Values.{Names, value_at, last_value, fits_signed}
 use Rattle.rvm_dis.specs.Pieces.{hex, hex_digits, short_hex, target}
 use Rattle.rvm_dis.proofs.Numbers.{all_below, each_below, decimal_number, decimal_no_name, decimal_word, short_hex_number, hex_number}
 use Rattle.rvm_dis.proofs.Reading.{Reads, Stops, is_one_word, word, last_word, mark}

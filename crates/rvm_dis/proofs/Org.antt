@@ -2,10 +2,10 @@
 use Rattle.std.proofs.Common.{◌≡◌, ℕ, ◌^◌, ◌<◌, List, [], ◌∷◌, None, Ok, refl}
 use Rattle.std.specs.Prelude.{codes}
 use Rattle.rvm_text.specs.Lexemes.{Lexeme, Word}
-use Rattle.rvm_asm_line.specs.Contents.{bytes_at}
-use Rattle.rvm_asm_line.specs.Grammar.{grammar_at}
-use Rattle.rvm_asm_line.specs.Statements.{keyword_of, directives, next_place, equ_at}
-use Rattle.rvm_asm_line.specs.Values.{Names}
+use Rattle.rvm_asm.specs.Contents.{bytes_at}
+use Rattle.rvm_asm.specs.Grammar.{grammar_at}
+use Rattle.rvm_asm.specs.Statements.{keyword_of, directives, next_place, equ_at}
+use Rattle.rvm_asm.specs.Values.{Names}
 use Rattle.rvm_dis.specs.Pieces.{hex}
 use Rattle.rvm_dis.proofs.Numbers.{hex_word}
 use Rattle.rvm_dis.proofs.Operands.{word_last, word_is_last}

@@ -9,36 +9,36 @@ use Rattle.rvm_isa.specs.Table as shape
 use Rattle.rvm_isa.specs.Words.{word_of}
 use Rattle.rvm_isa.specs.declared.ins.Ins.{Ins}
 use Rattle.rvm_isa.specs.declared.ins.Ins.TheVariants as ins
-use Rattle.rvm_asm_line.specs.declared.operations.Operation.{Operation}
-use Rattle.rvm_asm_line.specs.declared.operations.Operation.TheVariants as operation
-use Rattle.rvm_asm_line.specs.declared.operations.Upper.{Upper}
-use Rattle.rvm_asm_line.specs.declared.operations.Upper.TheVariants as upper
-use Rattle.rvm_asm_line.specs.declared.operations.Branch.{Branch}
-use Rattle.rvm_asm_line.specs.declared.operations.Branch.TheVariants as branch
-use Rattle.rvm_asm_line.specs.declared.operations.Load.{Load}
-use Rattle.rvm_asm_line.specs.declared.operations.Load.TheVariants as load
-use Rattle.rvm_asm_line.specs.declared.operations.Store.{Store}
-use Rattle.rvm_asm_line.specs.declared.operations.Store.TheVariants as store
-use Rattle.rvm_asm_line.specs.declared.operations.Immediate.{Immediate}
-use Rattle.rvm_asm_line.specs.declared.operations.Immediate.TheVariants as immediate
-use Rattle.rvm_asm_line.specs.declared.operations.Shift.{Shift}
-use Rattle.rvm_asm_line.specs.declared.operations.Shift.TheVariants as shift
-use Rattle.rvm_asm_line.specs.declared.operations.Register.{Register}
-use Rattle.rvm_asm_line.specs.declared.operations.Register.TheVariants as register
-use Rattle.rvm_asm_line.specs.declared.operations.Whole.{Whole}
-use Rattle.rvm_asm_line.specs.declared.operations.Whole.TheVariants as whole
-use Rattle.rvm_asm_line.specs.declared.operations.Csr.{Csr}
-use Rattle.rvm_asm_line.specs.declared.operations.Csr.TheVariants as csr
-use Rattle.rvm_asm_line.specs.declared.operations.CsrImmediate.{CsrImmediate}
-use Rattle.rvm_asm_line.specs.declared.operations.CsrImmediate.TheVariants as csr_immediate
-use Rattle.rvm_asm_line.specs.declared.operations.Atomic.{Atomic}
-use Rattle.rvm_asm_line.specs.declared.operations.Atomic.TheVariants as atomic
-use Rattle.rvm_asm_line.specs.declared.statements.Code.TheVariants as code
-use Rattle.rvm_asm_line.specs.declared.statements.Keyword.{Keyword}
-use Rattle.rvm_asm_line.specs.declared.statements.Keyword.TheVariants as keyword
-use Rattle.rvm_asm_line.specs.Operations.{operations, atomics, operation_of, ordering, upper_ins, branch_ins, load_ins, store_ins, immediate_ins, shift_ins, register_ins, whole_ins, csr_ins, csr_immediate_ins, atomic_ins}
-use Rattle.rvm_asm_line.specs.Statements.{keyword_of, directives, pseudo_instructions}
-use Rattle.rvm_asm_line.specs.Values.{Names}
+use Rattle.rvm_asm.specs.declared.operations.Operation.{Operation}
+use Rattle.rvm_asm.specs.declared.operations.Operation.TheVariants as operation
+use Rattle.rvm_asm.specs.declared.operations.Upper.{Upper}
+use Rattle.rvm_asm.specs.declared.operations.Upper.TheVariants as upper
+use Rattle.rvm_asm.specs.declared.operations.Branch.{Branch}
+use Rattle.rvm_asm.specs.declared.operations.Branch.TheVariants as branch
+use Rattle.rvm_asm.specs.declared.operations.Load.{Load}
+use Rattle.rvm_asm.specs.declared.operations.Load.TheVariants as load
+use Rattle.rvm_asm.specs.declared.operations.Store.{Store}
+use Rattle.rvm_asm.specs.declared.operations.Store.TheVariants as store
+use Rattle.rvm_asm.specs.declared.operations.Immediate.{Immediate}
+use Rattle.rvm_asm.specs.declared.operations.Immediate.TheVariants as immediate
+use Rattle.rvm_asm.specs.declared.operations.Shift.{Shift}
+use Rattle.rvm_asm.specs.declared.operations.Shift.TheVariants as shift
+use Rattle.rvm_asm.specs.declared.operations.Register.{Register}
+use Rattle.rvm_asm.specs.declared.operations.Register.TheVariants as register
+use Rattle.rvm_asm.specs.declared.operations.Whole.{Whole}
+use Rattle.rvm_asm.specs.declared.operations.Whole.TheVariants as whole
+use Rattle.rvm_asm.specs.declared.operations.Csr.{Csr}
+use Rattle.rvm_asm.specs.declared.operations.Csr.TheVariants as csr
+use Rattle.rvm_asm.specs.declared.operations.CsrImmediate.{CsrImmediate}
+use Rattle.rvm_asm.specs.declared.operations.CsrImmediate.TheVariants as csr_immediate
+use Rattle.rvm_asm.specs.declared.operations.Atomic.{Atomic}
+use Rattle.rvm_asm.specs.declared.operations.Atomic.TheVariants as atomic
+use Rattle.rvm_asm.specs.declared.statements.Code.TheVariants as code
+use Rattle.rvm_asm.specs.declared.statements.Keyword.{Keyword}
+use Rattle.rvm_asm.specs.declared.statements.Keyword.TheVariants as keyword
+use Rattle.rvm_asm.specs.Operations.{operations, atomics, operation_of, ordering, upper_ins, branch_ins, load_ins, store_ins, immediate_ins, shift_ins, register_ins, whole_ins, csr_ins, csr_immediate_ins, atomic_ins}
+use Rattle.rvm_asm.specs.Statements.{keyword_of, directives, pseudo_instructions}
+use Rattle.rvm_asm.specs.Values.{Names}
 use Rattle.rvm_dis.specs.Assembles.{Assembles}
 use Rattle.rvm_dis.specs.Disassembly.{text_of, text_of_decoded, text_at}
 use Rattle.rvm_dis.specs.Pieces.{ordered}

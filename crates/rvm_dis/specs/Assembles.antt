@@ -3,9 +3,9 @@ use Rattle.std.specs.Prelude.{◌≡◌, ℕ, ◌+◌, List, ◌∷◌, ◌++◌
 use Rattle.std.specs.Int.{to_le_bytes, w32}
 use Rattle.std.specs.Str.Lines.{lines}
 use Rattle.rvm_text.specs.Lexemes as grammar
-use Rattle.rvm_asm_line.specs.Contents.{bytes_at}
-use Rattle.rvm_asm_line.specs.Statements.{label_of, next_place, equ_at}
-use Rattle.rvm_asm_line.specs.Values.{Names}
+use Rattle.rvm_asm.specs.Contents.{bytes_at}
+use Rattle.rvm_asm.specs.Statements.{label_of, next_place, equ_at}
+use Rattle.rvm_asm.specs.Values.{Names}
 
 -- a text at a place is one line, whatever follows it, and is in the grammar; it has no label and defines no name, makes
 -- the four bytes of a word, the lowest first, and the next line stands after them, whatever values names have

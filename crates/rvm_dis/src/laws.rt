@@ -1,7 +1,7 @@
 //! What holds of the text of each word.
 
 ghost use Rattle.std.specs.Prelude.{◌≡◌, ◌%◌};
-ghost use Rattle.rvm_asm_line.specs.Values.{Names};
+ghost use Rattle.rvm_asm.specs.Values.{Names};
 ghost use Rattle.rvm_dis.specs.Assembles.{Assembles};
 ghost use Rattle.rvm_dis.specs.Disassembly.{text_at};
 

@@ -9,7 +9,7 @@ use Rattle.rvm_replay.specs.Findings.{HasAuditStatus, IsUntoldAudit}
 use Rattle.rvm_replay.specs.declared.journal_audit.AuditText.{AuditText}
 use Rattle.rvm_replay.specs.declared.journal_file.JournalFile.{JournalFile}
 use Rattle.rvm_program.specs.Ended.{AreAuditedTo, AreJournals, IsAuditEnd, IsJournal, IsNotBegun, IsOneMore, JournalsEnded, ToTell, Written, text_of, written}
-use Rattle.rvm_program.specs.Files.{IsFile, Named}
+use Rattle.rvm_files.specs.Files.{IsFile, Named}
 
 after_one : (files : Named) (names : List (Bor (List ℕ))) (i : ℕ) (js : List JournalFile) (n : Bor (List ℕ)) (j : JournalFile)
     → AreJournals files (take i names) js → slice_get names i ≡ Some n → IsJournal (files n.now) j.bytes.items

@@ -21,7 +21,7 @@ use Rattle.rvm_move.specs.Ended.{IsMoved, IsNotMoved, IsUntold}
 use Rattle.rvm_move.specs.Orders.{IsAudited, IsNotAudited}
 use Rattle.rvm_program.specs.Ended.{AsmEnded, AuditEnded, DebugEnded, DisEnded, HasHosted, HasRunTo, HostEnded, IsNamedFile, MoveEnded, RunEnded, ScriptEnded, TellEnded, ToTell, Written, report_name, trace_name}
 use Rattle.rvm_command.proofs.Inputs.{ends_so}
-use Rattle.rvm_program.specs.Files.{IsApart, IsCreated, IsFile, IsFirst, IsFirstInput, IsImage, IsInput, IsOpened, Named, symbols_name}
+use Rattle.rvm_files.specs.Files.{IsApart, IsCreated, IsFile, IsFirst, IsFirstInput, IsImage, IsInput, IsOpened, Named, symbols_name}
 use Rattle.rvm_command.specs.ScriptEnds.{IsScriptEnd}
 
 -- neither 0 nor 1

@@ -5,7 +5,7 @@ use Rattle.rvm_arguments.specs.declared.arguments.Arguments.{Arguments}
 use Rattle.rvm_arguments.specs.declared.arguments.CommandLine.{CommandLine}
 use Rattle.rvm_arguments.specs.declared.arguments.HostArguments.{HostArguments}
 use Rattle.rvm_program.specs.Ended.{HasEnded, HostEnded, Written, written}
-use Rattle.rvm_program.specs.Files.{Named}
+use Rattle.rvm_files.specs.Files.{Named}
 use Rattle.rvm_program.specs.Performed.{HasEndedEither, HasEndedSo, HasFailed, HasFailedEither, HasFailedSo}
 
 -- if its report may not have been written as a whole, it failed to report how it ended

@@ -11,7 +11,7 @@ use Rattle.rvm_command.specs.Command.{end_text, refused_text}
 use Rattle.rvm_command.specs.Ends.{run_status}
 use Rattle.rvm_command.specs.Seeds.{IsOrdersEnd, OrdersHaveStatus}
 use Rattle.rvm_program.specs.Ended.{OrdersEnded, ToTell, Written}
-use Rattle.rvm_program.specs.Files.{IsFile, IsFirstInput, Named}
+use Rattle.rvm_files.specs.Files.{IsFile, IsFirstInput, Named}
 
 -- what runs by several seeds were to tell that ended so
 to_tell : (a : OrdersArguments) (End : Result (Option FailedRun) Refused → Type 0)

@@ -10,7 +10,7 @@ use Rattle.rvm_command.specs.Command.{refused_text}
 use Rattle.rvm_command.specs.Refusals.{refused}
 use Rattle.rvm_replay.specs.Replays.{HasAnswered, HasReplayStatus, HasSessionStatus, IsNoSession, IsUntold}
 use Rattle.rvm_program.specs.Ended.{IsAnswerEnd, IsFileOrNone, IsGiven, IsJournal, IsNotBegun, IsReplayEnd, IsReplayed, IsSession, ReplayEnded, ToTell, Written, written}
-use Rattle.rvm_program.specs.Files.{IsFileRefusal, IsOpened, IsRefusedFile, Named, file_text}
+use Rattle.rvm_files.specs.Files.{IsFileRefusal, IsOpened, IsRefusedFile, Named, file_text}
 use Rattle.rvm_refusal.specs.declared.refusal.Refusal.{Refusal}
 
 module _ {F : Type 0} (r : Result ℕ F) (Ends : ℕ → Written → Type 0) (files : Named) where

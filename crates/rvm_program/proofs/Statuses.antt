@@ -25,7 +25,7 @@ use Rattle.rvm_command.specs.declared.orders_command.FailedRun.{FailedRun}
 use Rattle.rvm_command.specs.Ends.{RunHasStatus, run_status}
 use Rattle.rvm_command.specs.Refusals.{refused}
 use Rattle.rvm_move.specs.Ended.{ended_of, status_asked}
-use Rattle.rvm_program.specs.Files.{IsUnread, Named}
+use Rattle.rvm_files.specs.Files.{IsUnread, Named}
 use Rattle.rvm_refusal.specs.declared.refusal.Refusal.{Refusal}
 
 -- what a command was asked for that has ended with this status, if it is more than 1

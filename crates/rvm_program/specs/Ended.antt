@@ -32,7 +32,7 @@ use Rattle.rvm_replay.specs.declared.journal_audit.AuditText.TheVariants.{Order,
 use Rattle.rvm_replay.specs.declared.journal_file.JournalFile.{JournalFile}
 use Rattle.rvm_move.specs.Ended.{IsMoved, IsNotMoved}
 use Rattle.rvm_move.specs.Orders.{IsAudited, IsNotAudited}
-use Rattle.rvm_program.specs.Files.{IsApart, IsCreated, IsFile, IsFileRefusal, IsFirstInput, IsImage, IsInput, IsOpened, IsRefusedFile, IsUnread, Named, file_text, symbols_name}
+use Rattle.rvm_files.specs.Files.{IsApart, IsCreated, IsFile, IsFileRefusal, IsFirstInput, IsImage, IsInput, IsOpened, IsRefusedFile, IsUnread, Named, file_text, symbols_name}
 use Rattle.rvm_refusal.specs.declared.refusal.Refusal.{Refusal}
 use Rattle.rvm_command.specs.ScriptEnds.{IsScriptEnd}
 

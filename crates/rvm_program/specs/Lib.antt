@@ -1,11 +1,3 @@
-pub mod Files
 pub mod Ended
 pub mod Performed
 pub mod Words
-pub mod FileFaults
-pub mod LineFaults
-pub mod ElfFaults
-pub mod Outsides
-pub mod Defects
-pub mod Found
-pub mod Reports

@@ -13,8 +13,8 @@ use Rattle.rvm_arguments.specs.declared.arguments.StatusOf.TheVariants.{Command,
 use Rattle.rvm_command_line.specs.Given.{IsAsked, IsExplained}
 use Rattle.rvm_command_line.specs.Program.{faults_of, program}
 use Rattle.rvm_program.specs.Ended.{HasEnded, IsUnbegun, IsUntold, Written, written}
-use Rattle.rvm_program.specs.Files.{Named}
-use Rattle.rvm_program.specs.Reports.{GoesOut}
+use Rattle.rvm_files.specs.Files.{Named}
+use Rattle.rvm_files.specs.Reports.{GoesOut}
 
 -- words have no fault for `clap`, and this holds of what they ask for
 pub record AskFor (words : List Text) (Holds : Arguments → Type 0) : Type 0 where

@@ -13,12 +13,8 @@ ghost use Rattle.rvm_command.specs.declared.refused.Refused.{Refused};
 ghost use Rattle.rvm_command.specs.declared.run.Ended.{Ended};
 ghost use Rattle.rvm_command.specs.Ends.{RunHasStatus};
 ghost use Rattle.rvm_program.specs.Ended.{AsmEnded, AuditEnded, DebugEnded, DisEnded, HasRunTo, HostEnded, IsNamedFile, MoveEnded, RunEnded, ScriptEnded, TellEnded, ToTell, report_name, trace_name, written};
-ghost use Rattle.rvm_program.specs.Files.{IsFile, IsFileRefusal, IsFirst, IsFirstInput, IsImage, IsInput, IsLong, IsLongInput, IsLongSymbols, IsRefusedFile, IsUnread, file_text, max_size, symbols_name};
+ghost use Rattle.rvm_files.specs.Files.{IsFile, IsFileRefusal, IsFirst, IsFirstInput, IsImage, IsInput, IsLong, IsLongInput, IsLongSymbols, IsRefusedFile, IsUnread, file_text, max_size, symbols_name};
 
-use crate::files::{
-    MAX_FILE_SIZE, NamedFiles, keep_apart, keep_read, read_beginning, read_whole, refusal_of,
-};
-use crate::images::{begin_image, check_image, read_image};
 use crate::system::System;
 use either::Either;
 use rvm_arguments::{
@@ -31,6 +27,10 @@ use rvm_command::debug_command::debug_command;
 use rvm_command::dis_command::dis_command;
 use rvm_command::run_command::{RunFiles, run_command};
 use rvm_command::script_command::script_command;
+use rvm_files::{
+    MAX_FILE_SIZE, NamedFiles, begin_image, check_image, keep_apart, keep_read, read_beginning,
+    read_image, read_whole, refusal_of,
+};
 use rvm_host_command::host_command::{HostBytes, host_command};
 use rvm_host_command::tell_command::{LOST, connect_to, tell_command};
 use rvm_mem::PagedMemory;

@@ -1,9 +1,9 @@
 //! The descriptors of standard input, standard output and standard error.
 
 ghost use Rattle.std.specs.Prelude.{IfErr};
-ghost use Rattle.rvm_program.specs.Files.{IsFileRefusal};
+ghost use Rattle.rvm_files.specs.Files.{IsFileRefusal};
 
-use crate::files::refusal_of;
+use rvm_files::refusal_of;
 use rvm_refusal::Refusal;
 use std::fs::File;
 use std::rt::Files;

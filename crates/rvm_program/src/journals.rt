@@ -4,12 +4,12 @@
 ghost use Rattle.std.specs.Prelude.{◌≡◌, [], ◌∷◌, ◌++◌, IfErr, IfOk, OnErr, OnOk};
 ghost use Rattle.rvm_replay.specs.Replays.{HasReplayStatus};
 ghost use Rattle.rvm_program.specs.Ended.{AreJournals, IsAnswerEnd, IsAuditEnd, IsFileOrNone, IsJournal, IsOneMore, IsReplayed, JournalsEnded, ReplayEnded, ToTell, text_of, written};
-ghost use Rattle.rvm_program.specs.Files.{IsFile, IsRefusedFile, Named};
+ghost use Rattle.rvm_files.specs.Files.{IsFile, IsRefusedFile, Named};
 
 use crate::commands::{STANDARD_INPUT, Told, buffered, read_told, tell_file};
-use crate::files::{MAX_JOURNAL_SIZE, NamedFiles, read_file};
 use rvm_arguments::{AuditJournalsArguments, ReplayArguments};
 use rvm_command::refused::{Refused, tell};
+use rvm_files::{MAX_JOURNAL_SIZE, NamedFiles, read_file};
 use rvm_journal::whole_size;
 use rvm_mem::PagedMemory;
 use rvm_refusal::Refusal;

@@ -1,52 +1,35 @@
 //! The program as a function: it reads the words of a command line and the files that they name, and does the command.
 //! It prints to the writers that it is given, and returns the status.
 //!
-//! Stands on the commands and `clap`, and reaches files through the runtime or another `NamedFiles` alone,
-//! so that another program can call what `rvmove` does.
+//! Stands on the commands, on `rvm_files` and on `clap`, and reaches files through the runtime or another `NamedFiles`
+//! alone, so that another program can call what `rvmove` does.
 //!
-//! To be read in this order: `perform`, `commands`, `orders`, `journals`, `images`, `files`; how a refusal is explained, `file_fault`, `headers`,
-//! `image_parts`, `line_fault`, `defect`, `found`, `refusal_report`, `finding`, `unfound`, `explaining`; `system`,
-//! `descriptors`, `words`.
+//! To be read in this order: `perform`, `commands`, `orders`, `journals`; `system`, `descriptors`, `words`.
 #![tactic(auto)]
 
 ghost use Rattle.std.specs.Prelude.{◌≡◌, ◌≢◌, ◌⊎◌, ◌<◌, None, IfErr, IfOk, OnErr, map};
 ghost use Rattle.clap.specs.Words.{kind_of};
 ghost use Rattle.clap.specs.declared.error.kind.ErrorKind.TheVariants as kind;
 ghost use Rattle.rvm_program.specs.Ended.{HasEnded, HostEnded, IsUnbegun, IsUntold, ToTell, written};
-ghost use Rattle.rvm_program.specs.Files.{IsUnread};
+ghost use Rattle.rvm_files.specs.Files.{IsUnread};
 ghost use Rattle.rvm_program.specs.Performed.{AreFaulty, AreJudged, ArePassingOn, AskForOpen, HasEndedEither, HasEndedSo, HasFailed, HasFailedEither, HasFailedSo, IsEndedSo, IsJudged, IsPassingOn, IsRefusedSo, IsShown, MayBeOpen};
 
 mod commands;
-mod defect;
 mod descriptors;
-mod explaining;
-mod file_fault;
-mod files;
-mod finding;
-mod found;
-mod headers;
-mod image_parts;
-mod images;
 mod journals;
-mod line_fault;
 mod orders;
-mod refusal_report;
 mod system;
-mod unfound;
 mod words;
 
 use clap::Error;
 use commands::Told;
 pub use descriptors::{Descriptors, take_descriptors};
-use explaining::{explain_report, find_for_host, pass_on};
-pub use file_fault::FileFault;
-use files::HostFiles;
-pub use files::{MAX_FILE_SIZE, MAX_JOURNAL_SIZE, NamedFiles};
-use found::write_found;
 use rvm_arguments::{Arguments, CommandLine, HostArguments};
 use rvm_command::refused::{Refused, tell};
 pub use rvm_command_line::VERSION;
 use rvm_command_line::parse_args;
+pub use rvm_files::{FileFault, MAX_FILE_SIZE, MAX_JOURNAL_SIZE, NamedFiles};
+use rvm_files::{HostFiles, explain_report, find_for_host, pass_on, write_found};
 use rvm_mem::PagedMemory;
 use rvm_refusal::Refusal;
 use std::convert::AsStr;
@@ -111,7 +94,7 @@ where
 {
     perform_over::<M, Rt, HostFiles<'_, Rt>, S, I, O, E>(
         rt,
-        &HostFiles { rt },
+        &HostFiles::new(rt),
         words,
         input,
         output,

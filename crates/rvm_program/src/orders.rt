@@ -3,13 +3,12 @@
 ghost use Rattle.std.specs.Prelude.{◌≡◌, IfErr, IfOk, OnErr};
 ghost use Rattle.rvm_arguments.specs.declared.arguments.Arguments.TheVariants as asks;
 ghost use Rattle.rvm_program.specs.Ended.{OrdersEnded, ToTell, written};
-ghost use Rattle.rvm_program.specs.Files.{IsUnread};
+ghost use Rattle.rvm_files.specs.Files.{IsUnread};
 
 use crate::commands::{Told, read_input};
-use crate::files::NamedFiles;
-use crate::images::read_image;
 use rvm_arguments::OrdersArguments;
 use rvm_command::orders_command::orders_command;
+use rvm_files::{NamedFiles, read_image};
 use rvm_mem::PagedMemory;
 use rvm_refusal::Refusal;
 use std::alloc::Global;

@@ -2,8 +2,7 @@
 //! formats.
 
 use crate::retry::again;
-use rvm_asm::{AsmError, Image, Segment, assemble};
-use rvm_asm_line::Fault;
+use rvm_asm::{AsmError, Fault, Image, Segment, assemble};
 use std::alloc::Global;
 use std::test::Fail;
 

@@ -1,4 +1,4 @@
-use Rattle.rvm_asm_line.specs.Views.{names_of}
+use Rattle.rvm_asm.specs.LineViews.{names_of}
 use Rattle.rvm_asm.proofs.assembler.assemble_lines.Goals as goal
 
 pub returns-clause-image : goal.returns-clause-image

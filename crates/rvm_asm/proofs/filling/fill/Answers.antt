@@ -1,5 +1,5 @@
 use Rattle.std.proofs.Common.{◌∙◌, ap, arith, length, sym, subst}
-use Rattle.rvm_asm_line.specs.Views.{names_of}
+use Rattle.rvm_asm.specs.LineViews.{names_of}
 use Rattle.rvm_asm.specs.Images.{byte_at, or_else, piece, pieces_of}
 use Rattle.rvm_asm.specs.Pieces.{AreOrdered, end_of}
 use Rattle.rvm_asm.specs.Views.{line_bytes, lines_of, texts_of, AreExtents}

@@ -1,5 +1,5 @@
 use Rattle.std.proofs.Common.{sym, get_or}
-use Rattle.rvm_asm_line.specs.Views.{names_of}
+use Rattle.rvm_asm.specs.LineViews.{names_of}
 use Rattle.rvm_asm.specs.Views.{lines_of, texts_of}
 use Rattle.rvm_asm.proofs.Claims.{bytes_are, text_bytes}
 use Rattle.rvm_asm.proofs.Lines.{text_read}

@@ -1,7 +1,7 @@
 use Rattle.std.proofs.Common.{◌≡◌, arith, sym, ap, get_or, length, ◌+◌, [], subst}
 use Rattle.std.proofs.lemmas.List.{get_or_at}
 use Rattle.rvm_asm.specs.Assembly.{IsLaidTo}
-use Rattle.rvm_asm_line.specs.Views.{names_of}
+use Rattle.rvm_asm.specs.LineViews.{names_of}
 use Rattle.rvm_asm.specs.Views.{lines_of, texts_of}
 use Rattle.rvm_asm.proofs.Laying.{laid_more, laid_none, placing_error}
 use Rattle.rvm_asm.proofs.Lines.{text_read, text_at, lines_count}

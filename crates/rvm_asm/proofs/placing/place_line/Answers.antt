@@ -1,6 +1,6 @@
 use Rattle.std.proofs.Common.{◌≡◌, ◌+◌, arith, get_or, length, subst, sym}
 use Rattle.std.proofs.lemmas.Result.{err_from_is_err_and}
-use Rattle.rvm_asm_line.specs.Views.{names_of}
+use Rattle.rvm_asm.specs.LineViews.{names_of}
 use Rattle.rvm_asm.specs.Refusals.{IsErrorOf, error_at}
 use Rattle.rvm_asm.specs.Views.{lines_of, texts_of}
 use Rattle.rvm_asm.proofs.Claims.{text_count, text_fault, text_fits, text_placed, text_taken}

@@ -1,5 +1,5 @@
 use Rattle.std.proofs.Common.{◌≡◌, ◌∙◌, ap, arith, length, not, subst}
-use Rattle.rvm_asm_line.specs.Views.{names_of}
+use Rattle.rvm_asm.specs.LineViews.{names_of}
 use Rattle.rvm_asm.specs.Refusals.{count_to}
 use Rattle.rvm_asm.specs.Views.{lines_of, texts_of, ArePlaced, IsRoom}
 use Rattle.rvm_asm.proofs.Claims.{no_room, oversized, placed_none, room_more, room_none}

@@ -1,4 +1,4 @@
-use Rattle.rvm_asm_line.specs.Views.{names_of}
+use Rattle.rvm_asm.specs.LineViews.{names_of}
 use Rattle.rvm_asm.specs.Refusals.{count_to}
 use Rattle.rvm_asm.specs.Views.{lines_of, texts_of, ArePlaced, IsRoom}
 use Rattle.rvm_asm.proofs.placing.place_lines.Given as goal

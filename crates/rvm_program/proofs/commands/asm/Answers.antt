@@ -1,5 +1,5 @@
 use Rattle.std.proofs.Common.{rules}
-use Rattle.rvm_program.specs.Files.{IsApart}
+use Rattle.rvm_files.specs.Files.{IsApart}
 use Rattle.rvm_program.specs.Ended.{written}
 use Rattle.rvm_program.proofs.Ended.{asm_ended, asm_untold}
 use Rattle.rvm_program.proofs.commands.asm.Goals as goal

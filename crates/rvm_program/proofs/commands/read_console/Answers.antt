@@ -1,6 +1,6 @@
 use Rattle.std.proofs.Common.{◌<◌, arith}
 use Rattle.std.proofs.lemmas.Grind.{common_steps}
-use Rattle.rvm_program.proofs.Reading.{first_given}
+use Rattle.rvm_files.proofs.Reading.{first_given}
 use Rattle.rvm_program.proofs.commands.read_console.Goals as goal
 
 pub returns-then-turns-gt-MAX_FILE_SIZE-clause-first :

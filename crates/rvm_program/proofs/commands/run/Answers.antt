@@ -5,8 +5,8 @@ use Rattle.rvm_arguments.specs.declared.arguments.RunArguments.{RunArguments}
 use Rattle.rvm_command.specs.Ends.{RunHasStatus}
 use Rattle.rvm_command.specs.declared.refused.Refused.{Refused}
 use Rattle.rvm_command.specs.declared.run.Ended.{Ended}
-use Rattle.rvm_program.specs.Files.{image_limit}
-use Rattle.rvm_program.proofs.Reading.{whole}
+use Rattle.rvm_files.specs.Files.{image_limit}
+use Rattle.rvm_files.proofs.Reading.{whole}
 use Rattle.rvm_program.specs.Ended.{HasRunTo, RunEnded, ToTell, written}
 use Rattle.rvm_program.proofs.Ended.{begun_so, run_ended, run_untold}
 use Rattle.rvm_program.proofs.commands.run.Goals as goal

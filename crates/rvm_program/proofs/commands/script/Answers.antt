@@ -1,6 +1,6 @@
 use Rattle.std.proofs.Common.{◌≤◌, length, rules}
-use Rattle.rvm_program.specs.Files.{image_limit}
-use Rattle.rvm_program.proofs.Reading.{whole}
+use Rattle.rvm_files.specs.Files.{image_limit}
+use Rattle.rvm_files.proofs.Reading.{whole}
 use Rattle.std.specs.Io.Buffered.{writer_contents}
 use Rattle.rvm_program.specs.Ended.{written}
 use Rattle.rvm_program.proofs.Ended.{script_ended, script_untold}
