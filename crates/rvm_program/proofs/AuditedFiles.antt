@@ -6,8 +6,8 @@ use Rattle.std.specs.Borrow.{Bor}
 use Rattle.std.proofs.lemmas.Option.{none-some, same_Some, slice_get-get_or}
 use Rattle.rvm_arguments.specs.declared.arguments.AuditJournalsArguments.{AuditJournalsArguments}
 use Rattle.rvm_replay.specs.Findings.{HasAuditStatus, IsUntoldAudit}
-use Rattle.rvm_replay.specs.declared.journal_audit.AuditText.{AuditText}
-use Rattle.rvm_replay.specs.declared.journal_file.JournalFile.{JournalFile}
+use Rattle.rvm_replay.specs.declared.audit.AuditText.{AuditText}
+use Rattle.rvm_replay.specs.declared.file.JournalFile.{JournalFile}
 use Rattle.rvm_program.specs.Ended.{AreAuditedTo, AreJournals, IsAuditEnd, IsJournal, IsNotBegun, IsOneMore, JournalsEnded, ToTell, Written, text_of, written}
 use Rattle.rvm_files.specs.Files.{IsFile, Named}
 

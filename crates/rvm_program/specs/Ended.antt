@@ -27,9 +27,9 @@ use Rattle.rvm_replay.specs.Replays.{HasReplayStatus, HasSessionStatus}
 use Rattle.rvm_host_command.specs.Hosted.{IsHostedTo}
 use Rattle.rvm_replay.specs.Findings.{HasAuditStatus}
 use Rattle.rvm_journal.specs.Whole.{AreWholeLines}
-use Rattle.rvm_replay.specs.declared.journal_audit.AuditText.{AuditText}
-use Rattle.rvm_replay.specs.declared.journal_audit.AuditText.TheVariants.{Order, Summary}
-use Rattle.rvm_replay.specs.declared.journal_file.JournalFile.{JournalFile}
+use Rattle.rvm_replay.specs.declared.audit.AuditText.{AuditText}
+use Rattle.rvm_replay.specs.declared.audit.AuditText.TheVariants.{Order, Summary}
+use Rattle.rvm_replay.specs.declared.file.JournalFile.{JournalFile}
 use Rattle.rvm_move.specs.Ended.{IsMoved, IsNotMoved}
 use Rattle.rvm_move.specs.Orders.{IsAudited, IsNotAudited}
 use Rattle.rvm_files.specs.Files.{IsApart, IsCreated, IsFile, IsFileRefusal, IsFirstInput, IsImage, IsInput, IsOpened, IsRefusedFile, IsUnread, Named, file_text, symbols_name}

@@ -3,7 +3,7 @@ use Rattle.std.proofs.Common.{◌≡◌, ◌∙◌, ℕ, zero, suc, ◌+◌, Lis
 use Rattle.std.specs.Prelude.{slice_get}
 use Rattle.std.proofs.lemmas.Option.{same_Some}
 use Rattle.rvm_recorder.specs.History.{Recording}
-use Rattle.rvm_replay.specs.declared.journal_file.JournalFile.{JournalFile}
+use Rattle.rvm_replay.specs.declared.file.JournalFile.{JournalFile}
 use Rattle.rvm_replay.specs.Audited.{AllDone, AreOfWorld, AreReplayed, HasDone}
 
 -- one more element

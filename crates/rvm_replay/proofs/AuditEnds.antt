@@ -25,12 +25,12 @@ use Rattle.rvm_replay.specs.Audited.{AreReplayed, IsOrdered, IsWritten, journals
 use Rattle.rvm_replay.specs.Findings.{AreRefuted, AreUndecided, EndsAt, HasAuditStatus, HasFindingStatus, IsFaultTold, IsFinding, IsUntoldAudit, IsUntoldFinding, cuts_of, histories_in, is_cut, name_of, refuted_text, undecided_text}
 use Rattle.rvm_replay.specs.FileFaults.{fault_line}
 use Rattle.rvm_replay.specs.Unaudited.{IsJournalsFault}
-use Rattle.rvm_replay.specs.declared.journal_audit.AuditText.{AuditText}
-use Rattle.rvm_replay.specs.declared.journal_audit.Finding.{Finding}
-use Rattle.rvm_replay.specs.declared.journal_audit.Finding.TheVariants.{Contradicted, InOrder, Undecided}
-use Rattle.rvm_replay.specs.declared.journal_file.JournalFile.{JournalFile}
-use Rattle.rvm_replay.specs.declared.journal_file.JournalsFault.{JournalsFault}
-use Rattle.rvm_replay.specs.declared.journal_file.JournalsFault.TheVariants as journals
+use Rattle.rvm_replay.specs.declared.audit.AuditText.{AuditText}
+use Rattle.rvm_replay.specs.declared.audit.Finding.{Finding}
+use Rattle.rvm_replay.specs.declared.audit.Finding.TheVariants.{Contradicted, InOrder, Undecided}
+use Rattle.rvm_replay.specs.declared.file.JournalFile.{JournalFile}
+use Rattle.rvm_replay.specs.declared.file.JournalsFault.{JournalsFault}
+use Rattle.rvm_replay.specs.declared.file.JournalsFault.TheVariants as journals
 use Rattle.rvm_replay.proofs.OneWorld.{has_one_guest}
 
 -- a merge ended before all was taken, up to these places

@@ -13,7 +13,7 @@ use Rattle.rvm_hart.specs.declared.outcome.Stepped.TheVariants.{Retired}
 use Rattle.rvm_recorder.proofs.StepRuns.{all_push}
 use Rattle.rvm_replay.specs.Consoles.{taken_in}
 use Rattle.rvm_replay.specs.Counts.{Adds, capped, counts_at, counts_of, frames_in, moves_in, plus, turns_in}
-use Rattle.rvm_replay.specs.declared.journal_counts.Counts.{Counts}
+use Rattle.rvm_replay.specs.declared.counts.Counts.{Counts}
 
 -- a number added to another one that is capped
 capped_more : (a b n : ℕ) → capped n ≡ capped b → capped (capped a + n) ≡ capped (a + b)

@@ -13,8 +13,8 @@ use Rattle.rvm_core.specs.EventLines.{event_lines}
 use Rattle.rvm_core.specs.declared.event.Event.{Event}
 use Rattle.rvm_replay.specs.Audited.{IsOrdered, IsWritten, journals_in}
 use Rattle.rvm_replay.specs.Counts.{summary_of}
-use Rattle.rvm_replay.specs.declared.journal_audit.AuditText.{AuditText}
-use Rattle.rvm_replay.specs.declared.journal_audit.AuditText.TheVariants.{Order, Summary}
+use Rattle.rvm_replay.specs.declared.audit.AuditText.{AuditText}
+use Rattle.rvm_replay.specs.declared.audit.AuditText.TheVariants.{Order, Summary}
 
 abbrev journals : List Recording → List History
 journals all = map (λ r. r.journal) all

@@ -6,10 +6,10 @@ use Rattle.std.proofs.lemmas.Bool.Decides.{nat_tests}
 use Rattle.rvm_host.specs.Hosts.{is_sized}
 use Rattle.rvm_journal.specs.declared.header.Header.{Header}
 use Rattle.rvm_replay.specs.FileFaults.{IsFileFault}
-use Rattle.rvm_replay.specs.declared.journal_file.FileFault.{FileFault}
-use Rattle.rvm_replay.specs.declared.journal_file.JournalFile.{JournalFile}
-use Rattle.rvm_replay.specs.declared.journal_file.JournalsFault.{JournalsFault}
-use Rattle.rvm_replay.specs.declared.journal_file.JournalsFault.TheVariants.{File, NoGuest, OutOfMemory}
+use Rattle.rvm_replay.specs.declared.file.FileFault.{FileFault}
+use Rattle.rvm_replay.specs.declared.file.JournalFile.{JournalFile}
+use Rattle.rvm_replay.specs.declared.file.JournalsFault.{JournalsFault}
+use Rattle.rvm_replay.specs.declared.file.JournalsFault.TheVariants.{File, NoGuest, OutOfMemory}
 use Rattle.rvm_replay.specs.Audited.{header_number}
 use Rattle.rvm_replay.specs.Unaudited.{IsHeadersFault, IsJournalsFault}
 

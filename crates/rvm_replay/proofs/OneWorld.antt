@@ -16,9 +16,9 @@ use Rattle.rvm_audit.specs.Orders.{IsOrder, Journals}
 use Rattle.rvm_audit.specs.Worlds.{AreNew, IsWorldRun, knows_hosts}
 use Rattle.rvm_journal.specs.declared.header.Header.{Header}
 use Rattle.rvm_journal.specs.declared.header.Image.{Image}
-use Rattle.rvm_replay.specs.declared.journal_audit.AuditText.{AuditText}
-use Rattle.rvm_replay.specs.declared.journal_file.JournalFile.{JournalFile}
-use Rattle.rvm_replay.specs.declared.journal_headers.Wanted.TheVariants.{OfHost, WithGuest}
+use Rattle.rvm_replay.specs.declared.audit.AuditText.{AuditText}
+use Rattle.rvm_replay.specs.declared.file.JournalFile.{JournalFile}
+use Rattle.rvm_replay.specs.declared.headers.Wanted.TheVariants.{OfHost, WithGuest}
 use Rattle.rvm_replay.specs.Audited.{AreAudited, AreReplayed, HasDone, HasOneGuest, IsHostBy, IsOnlyOne, IsOrdered, header_number, is_wanted, journals_in}
 use Rattle.rvm_replay.specs.Journals.{IsGuestNamed}
 

@@ -7,8 +7,8 @@ use Rattle.rvm_journal.specs.Headers.{header_at}
 use Rattle.rvm_recorder.specs.History.{Recording}
 use Rattle.rvm_replay.specs.Audited.{is_wanted}
 use Rattle.rvm_replay.specs.PlaceLines.{journal_name, place_line, place_lines}
-use Rattle.rvm_replay.specs.declared.journal_file.JournalFile.{JournalFile}
-use Rattle.rvm_replay.specs.declared.journal_headers.Wanted.TheVariants.{OfHost}
+use Rattle.rvm_replay.specs.declared.file.JournalFile.{JournalFile}
+use Rattle.rvm_replay.specs.declared.headers.Wanted.TheVariants.{OfHost}
 
 -- the next journal is that of a host, or it is not
 module _ (x : ℕ) (files : List JournalFile) (i : ℕ) (f : JournalFile) (less : i < length files) (is : get_or files i f ≡ f) where

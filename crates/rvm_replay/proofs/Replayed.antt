@@ -13,8 +13,8 @@ use Rattle.rvm_journal.specs.Replaying.{AreFirstTold, IsReplayedTo, Records, eve
 use Rattle.rvm_message.specs.declared.event.HostEvent.{HostEvent}
 use Rattle.rvm_recorder.specs.History.{Recording, count_of}
 use Rattle.rvm_refusal.specs.declared.refusal.Refusal.TheVariants.{LinkFault}
-use Rattle.rvm_replay.specs.declared.journal_file.FileFault.{FileFault}
-use Rattle.rvm_replay.specs.declared.journal_file.FileFault.TheVariants as fault
+use Rattle.rvm_replay.specs.declared.file.FileFault.{FileFault}
+use Rattle.rvm_replay.specs.declared.file.FileFault.TheVariants as fault
 use Rattle.rvm_replay.specs.FileFaults.{IsFileFault, IsGuestFault}
 use Rattle.rvm_replay.specs.Journals.{IsGuestNamed, IsHostAfter}
 use Rattle.rvm_replay.specs.Replays.{HasAnswered, IsAnswered, IsNoSession, IsNotShown, IsReplay, IsShown, IsShownAgain, IsUnanswered, guest_after, no_guest_line}

@@ -5,7 +5,7 @@ use Rattle.std.proofs.lemmas.List.Concat.{flat_map-append}
 use Rattle.std.specs.Io.KnownBytes.{Appends}
 use Rattle.rvm_recorder.specs.History.{Recording}
 use Rattle.rvm_replay.specs.Counts.{counts_line, counts_of, entries_of_all, host_line, host_lines, plus, summary_of}
-use Rattle.rvm_replay.specs.declared.journal_counts.Counts.{Counts}
+use Rattle.rvm_replay.specs.declared.counts.Counts.{Counts}
 use Rattle.rvm_replay.proofs.Counting.{all_add}
 use Rattle.std.proofs.KnownBytes.{Appends-trans}
 

@@ -13,7 +13,7 @@ use Rattle.rvm_refusal.specs.declared.refusal.Refusal.TheVariants.{LinkFault}
 use Rattle.rvm_replay.specs.Consoles.{console_of}
 use Rattle.rvm_replay.specs.FileFaults.{IsFileFault, fault_line}
 use Rattle.rvm_replay.specs.Replays.{HasAnswerStatus, HasReplayStatus, HasSessionStatus, HasShownStatus, IsReplay, IsSessionRefused, IsUntold, guest_after, no_guest_line, replayed_line}
-use Rattle.rvm_replay.specs.declared.journal_file.FileFault.{FileFault}
+use Rattle.rvm_replay.specs.declared.file.FileFault.{FileFault}
 
 -- whatever is returned, a failure is told so
 pub on_error : {A E : Type 0} (r : Result A E) (P : Type 0) → P → OnErr r P

@@ -16,11 +16,11 @@ use Rattle.rvm_core.specs.EventLines.{event_lines}
 use Rattle.rvm_journal.specs.declared.header.Header.{Header}
 use Rattle.rvm_journal.specs.declared.header.Image.{Image}
 use Rattle.rvm_journal.specs.Headers.{header_at}
-use Rattle.rvm_replay.specs.declared.journal_audit.AuditText.{AuditText}
-use Rattle.rvm_replay.specs.declared.journal_audit.AuditText.TheVariants.{Order, Summary}
-use Rattle.rvm_replay.specs.declared.journal_file.JournalFile.{JournalFile}
-use Rattle.rvm_replay.specs.declared.journal_headers.Wanted.{Wanted}
-use Rattle.rvm_replay.specs.declared.journal_headers.Wanted.TheVariants.{OfHost, WithGuest}
+use Rattle.rvm_replay.specs.declared.audit.AuditText.{AuditText}
+use Rattle.rvm_replay.specs.declared.audit.AuditText.TheVariants.{Order, Summary}
+use Rattle.rvm_replay.specs.declared.file.JournalFile.{JournalFile}
+use Rattle.rvm_replay.specs.declared.headers.Wanted.{Wanted}
+use Rattle.rvm_replay.specs.declared.headers.Wanted.TheVariants.{OfHost, WithGuest}
 use Rattle.rvm_replay.specs.Counts.{summary_of}
 use Rattle.rvm_replay.specs.Journals.{IsGuestNamed, IsHostOf}
 

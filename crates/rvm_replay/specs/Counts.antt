@@ -10,7 +10,7 @@ use Rattle.rvm_message.specs.declared.reply.HostReply.TheVariants.{Committed}
 use Rattle.rvm_recorder.specs.Entries.{PlainEntry}
 use Rattle.rvm_recorder.specs.History.{Recording}
 use Rattle.rvm_replay.specs.Consoles.{taken_in}
-use Rattle.rvm_replay.specs.declared.journal_counts.Counts.{Counts}
+use Rattle.rvm_replay.specs.declared.counts.Counts.{Counts}
 
 -- one turn, if an event is a step of a hart
 abbrev pub turns_in : HostEvent → ℕ

@@ -10,8 +10,8 @@ use Rattle.rvm_journal.specs.declared.header.Header.{Header}
 use Rattle.rvm_journal.specs.declared.header.Image.{Image}
 use Rattle.rvm_journal.specs.Replaying as journal
 use Rattle.rvm_journal.specs.Replaying.{IsJournalFault}
-use Rattle.rvm_replay.specs.declared.journal_file.FileFault.{FileFault}
-use Rattle.rvm_replay.specs.declared.journal_file.FileFault.TheVariants.{NoHeader, SameHost, SecondGuest, OtherHosts, OtherWorld, NoImage, OtherImage, Image as BadImage, Journal as BadJournal}
+use Rattle.rvm_replay.specs.declared.file.FileFault.{FileFault}
+use Rattle.rvm_replay.specs.declared.file.FileFault.TheVariants.{NoHeader, SameHost, SecondGuest, OtherHosts, OtherWorld, NoImage, OtherImage, Image as BadImage, Journal as BadJournal}
 
 -- a header names a guest, and this is not the file of its image
 abbrev pub IsOtherImage : (guest : Option Image) → (file : List ℕ) → Type 0

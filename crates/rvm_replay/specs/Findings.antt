@@ -17,13 +17,13 @@ use Rattle.rvm_replay.specs.Audited.{AreAudited, AreReplayed, IsOrdered, is_want
 use Rattle.rvm_replay.specs.FileFaults.{fault_line}
 use Rattle.rvm_replay.specs.PlaceLines.{place_lines}
 use Rattle.rvm_replay.specs.Unaudited.{IsJournalsFault}
-use Rattle.rvm_replay.specs.declared.journal_audit.AuditText.{AuditText}
-use Rattle.rvm_replay.specs.declared.journal_audit.Finding.{Finding}
-use Rattle.rvm_replay.specs.declared.journal_audit.Finding.TheVariants.{Contradicted, InOrder, Undecided}
-use Rattle.rvm_replay.specs.declared.journal_file.JournalFile.{JournalFile}
-use Rattle.rvm_replay.specs.declared.journal_file.JournalsFault.{JournalsFault}
-use Rattle.rvm_replay.specs.declared.journal_file.JournalsFault.TheVariants as journals
-use Rattle.rvm_replay.specs.declared.journal_headers.Wanted.TheVariants.{OfHost}
+use Rattle.rvm_replay.specs.declared.audit.AuditText.{AuditText}
+use Rattle.rvm_replay.specs.declared.audit.Finding.{Finding}
+use Rattle.rvm_replay.specs.declared.audit.Finding.TheVariants.{Contradicted, InOrder, Undecided}
+use Rattle.rvm_replay.specs.declared.file.JournalFile.{JournalFile}
+use Rattle.rvm_replay.specs.declared.file.JournalsFault.{JournalsFault}
+use Rattle.rvm_replay.specs.declared.file.JournalsFault.TheVariants as journals
+use Rattle.rvm_replay.specs.declared.headers.Wanted.TheVariants.{OfHost}
 
 -- whether a journal is that of a host, and was cut off
 abbrev pub is_cut_of : (host : ℕ) → JournalFile → Bool

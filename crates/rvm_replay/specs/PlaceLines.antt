@@ -4,8 +4,8 @@ use Rattle.std.specs.Prelude.{ℕ, ◌+◌, if◌then◌else◌, List, [], ◌�
 use Rattle.rvm_journal.specs.Headers.{header_at}
 use Rattle.rvm_recorder.specs.History.{Recording, count_of}
 use Rattle.rvm_replay.specs.Audited.{is_wanted}
-use Rattle.rvm_replay.specs.declared.journal_file.JournalFile.{JournalFile}
-use Rattle.rvm_replay.specs.declared.journal_headers.Wanted.TheVariants.{OfHost}
+use Rattle.rvm_replay.specs.declared.file.JournalFile.{JournalFile}
+use Rattle.rvm_replay.specs.declared.headers.Wanted.TheVariants.{OfHost}
 
 -- the name of the file of a host's journal
 abbrev pub journal_name : (host : ℕ) → List JournalFile → List ℕ

@@ -4,13 +4,13 @@ use Rattle.rvm_journal.specs.Letters.{letter_of}
 use Rattle.rvm_journal.specs.declared.header.Header.{Header}
 use Rattle.rvm_replay.specs.Audited.{IsOnlyOne, header_number, is_wanted}
 use Rattle.rvm_replay.specs.FileFaults.{IsFileFault}
-use Rattle.rvm_replay.specs.declared.journal_file.FileFault.{FileFault}
-use Rattle.rvm_replay.specs.declared.journal_file.FileFault.TheVariants.{NoHeader, OtherHosts, OtherWorld, SameHost, SecondGuest}
-use Rattle.rvm_replay.specs.declared.journal_file.JournalFile.{JournalFile}
-use Rattle.rvm_replay.specs.declared.journal_file.JournalsFault.{JournalsFault}
-use Rattle.rvm_replay.specs.declared.journal_file.JournalsFault.TheVariants.{File, NoGuest, OutOfMemory}
-use Rattle.rvm_replay.specs.declared.journal_headers.Wanted.{Wanted}
-use Rattle.rvm_replay.specs.declared.journal_headers.Wanted.TheVariants.{OfHost, WithGuest}
+use Rattle.rvm_replay.specs.declared.file.FileFault.{FileFault}
+use Rattle.rvm_replay.specs.declared.file.FileFault.TheVariants.{NoHeader, OtherHosts, OtherWorld, SameHost, SecondGuest}
+use Rattle.rvm_replay.specs.declared.file.JournalFile.{JournalFile}
+use Rattle.rvm_replay.specs.declared.file.JournalsFault.{JournalsFault}
+use Rattle.rvm_replay.specs.declared.file.JournalsFault.TheVariants.{File, NoGuest, OutOfMemory}
+use Rattle.rvm_replay.specs.declared.headers.Wanted.{Wanted}
+use Rattle.rvm_replay.specs.declared.headers.Wanted.TheVariants.{OfHost, WithGuest}
 
 -- the journal with this index is wanted, and so is one before it
 pub record IsSecond (files : List JournalFile) (w : Wanted) (index : ℕ) : Type 0 where

@@ -4,21 +4,20 @@
 //! Stands on `rvm_journal` for the lines of journals, on `rvm_recorder` for hosts that do again what they tell, and on
 //! `rvm_audit` for the order. It must not know files, sockets or workers.
 //!
-//! To be read in this order: `journal_file`, `journal_hosts`, `journal_report`, `console_of_journal`, `replay_command`,
-//! `replay_session`; `journal_headers`, `journal_world`, `journal_cuts`, `journal_counts`, `journal_summary`,
-//! `journal_places`, `journal_audit`.
+//! To be read in this order: `file`, `hosts`, `report`, `console_of_journal`, `replay_command`, `replay_session`;
+//! `headers`, `world`, `cuts`, `counts`, `summary`, `places`, `audit`.
 #![tactic(auto)]
 
+pub mod audit;
 mod console_of_journal;
-pub mod journal_audit;
-mod journal_counts;
-mod journal_cuts;
-pub mod journal_file;
-mod journal_headers;
-mod journal_hosts;
-mod journal_places;
-mod journal_report;
-mod journal_summary;
-mod journal_world;
+mod counts;
+mod cuts;
+pub mod file;
+mod headers;
+mod hosts;
+mod places;
 pub mod replay_command;
 pub mod replay_session;
+mod report;
+mod summary;
+mod world;

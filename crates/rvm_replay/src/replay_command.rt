@@ -6,8 +6,8 @@ ghost use Rattle.rvm_refusal.specs.declared.refusal.Refusal.TheVariants as refus
 ghost use Rattle.rvm_replay.specs.Replays.{HasReplayStatus, HasShownStatus, IsNotShown, IsShown, IsShownAgain, IsUntold};
 
 use crate::console_of_journal::write_console;
-use crate::journal_hosts::host_of_journal;
-use crate::journal_report::report_fault;
+use crate::hosts::host_of_journal;
+use crate::report::report_fault;
 use rvm_command::refused::{Refused, tell};
 use rvm_mem::PagedMemory;
 use rvm_recorder::Recorded;

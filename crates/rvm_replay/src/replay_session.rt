@@ -8,8 +8,8 @@ ghost use Rattle.rvm_command.specs.Flushed.{is_flushed};
 ghost use Rattle.rvm_recorder.specs.History.{count_of};
 ghost use Rattle.rvm_replay.specs.Replays.{HasAnswerStatus, HasAnswered, HasSessionStatus, IsAnswered, IsNoSession, IsSessionRefused, IsUnanswered, IsUntold, guest_after, no_guest_line};
 
-use crate::journal_hosts::host_of_journal;
-use crate::journal_report::report_fault;
+use crate::hosts::host_of_journal;
+use crate::report::report_fault;
 use rvm_board::Debugged;
 use rvm_command::debug_command::answer;
 use rvm_command::refused::{Refused, tell};

@@ -13,8 +13,8 @@ use rvm_mem::write_bytes;
 use rvm_message::{Command, HostEvent};
 use rvm_paged::PagedRam;
 use rvm_recorder::Recorded;
-use rvm_replay::journal_audit::{AuditText, audit_journals};
-use rvm_replay::journal_file::JournalFile;
+use rvm_replay::audit::{AuditText, audit_journals};
+use rvm_replay::file::JournalFile;
 use std::alloc::Global;
 use std::io::BufWriter;
 

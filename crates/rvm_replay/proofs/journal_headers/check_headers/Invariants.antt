@@ -1,6 +1,0 @@
-use Rattle.rvm_replay.specs.Audited.{HaveHeadersOf}
-use Rattle.rvm_replay.proofs.journal_headers.check_headers.Given as goal
-
--- the journals so far are of this world
-abbrev pub invariant-loop-index : goal.invariant-loop-index
-invariant-loop-index l = HaveHeadersOf l.files l.index l.opening.hosts l.opening.world
