@@ -12,8 +12,8 @@ use crate::error::AsmError;
 use crate::filling::fill;
 use crate::image::Image;
 use crate::layout::lay_out;
-use crate::placing::place_lines;
 use crate::line_tokens::check_lines;
+use crate::placing::place_lines;
 use crate::symbols::{Symbols, lookup};
 use std::alloc::{AllocError, Global};
 

@@ -9,8 +9,8 @@ ghost use Rattle.rvm_asm.specs.Refusals.{IsErrorOf};
 ghost use Rattle.rvm_asm.specs.Views.{line_of, lines_of, texts_of, IsDefining, IsLaying};
 
 use crate::error::AsmError;
-use crate::line_tokens::read_line;
 use crate::faults::{Fault, LineError};
+use crate::line_tokens::read_line;
 use crate::statements::{definition, label, next_place};
 use crate::symbols::{Symbol, Symbols, insert, lookup};
 use rvm_text::Token;

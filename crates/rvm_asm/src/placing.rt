@@ -8,12 +8,12 @@ ghost use Rattle.rvm_asm.specs.Assembly.{line_at, statement_of, AreRead, IsLaid}
 ghost use Rattle.rvm_asm.specs.Refusals.{count_at, count_to, error_at, IsErrorOf, IsSizeError};
 ghost use Rattle.rvm_asm.specs.Views.{extent_pieces, line_of, lines_of, texts_of, ArePlaced, Holds, IsRoom};
 
+use crate::content::contents;
 use crate::error::AsmError;
 use crate::extents::{Extents, are_many, claim};
+use crate::faults::LineError;
 use crate::image::MAX_BYTES;
 use crate::line_tokens::read_line;
-use crate::content::contents;
-use crate::faults::LineError;
 use crate::statements::label;
 use crate::symbols::Symbols;
 use std::alloc::Global;

@@ -179,11 +179,7 @@ pub fn read_file<F: NamedFiles>(
 }
 
 /// All bytes of a file, at most `MAX_FILE_SIZE`. Fails as `read_file` does, with `TooLong` if it has more bytes.
-pub fn read_whole<F: NamedFiles>(
-    files: &F,
-    alloc: Global,
-    path: &str,
-) -> Result<Vec<u8>, Refusal>
+pub fn read_whole<F: NamedFiles>(files: &F, alloc: Global, path: &str) -> Result<Vec<u8>, Refusal>
     ensures bytes { IfOk result (λ v. IsFile (F.bytes_of files.now path.now) v.items) }
     ensures few { IfOk result (λ v. length v.items ≤ max_size) }
     ensures refused { IfErr result (λ r. IsFileRefusal r
