@@ -11,6 +11,7 @@ pub mod Running
 pub mod Marking
 pub mod Retirings
 pub mod Computes
+pub mod Alone
 pub mod Waiting
 pub mod Guests
 pub mod Made

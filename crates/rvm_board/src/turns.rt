@@ -44,6 +44,8 @@ const IN_STRAIGHT_ROUNDS: u8 = 7;
 
 pub(crate) const IN_COMPUTING_ROUNDS: u8 = 8;
 
+pub(crate) const IN_COMPUTING: u8 = 9;
+
 /// Which hart has the next turn.
 #[derive(Clone, Copy, Debug, PartialEq, Eq)]
 pub enum Order {
@@ -356,6 +358,7 @@ impl<M: Memory> Debugged<M> {
         ensures retired { (straight.steps result (machine_at hart self.old.guest.board)).retired ≡ true }
         ensures stops { none_stops self.old.guest.breakpoints result
             (machine_at hart self.old.guest.board) ≡ true }
+        ensures devices { straight.DevicesStay result (machine_at hart self.old.guest.board) }
     {
         let stands = self.stopped[hart as usize];
         let most = if stands { 0 } else { count };
