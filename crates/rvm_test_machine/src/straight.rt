@@ -103,7 +103,7 @@ fn each_row_of_the_straight_path_is_made_there(rt: HostRuntime) -> Result<(), Fa
 
 #[test]
 fn harts_that_compute_make_all_turns(rt: HostRuntime) -> Result<(), Fail> {
-    for harts in [2, 4, 8] {
+    for harts in [1, 2, 4, 8] {
         let mut guest = Debugged::new(board(rt.alloc(), harts, LOOP)?);
         assert!(rt; guest.harts() == harts);
         assert_eq!(rt; guest.compute(0, 1000), 1000);
