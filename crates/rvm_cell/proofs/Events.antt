@@ -3,12 +3,15 @@ use Rattle.std.proofs.Common.{◌≡◌, ◌∙◌, ℕ, zero, suc, ◌+◌, ◌
 use Rattle.std.proofs.lemmas.Grind.{fold-append}
 use Rattle.std.specs.Prelude.{IfOk, IfSome, OnErr}
 use Rattle.rvm_host.specs.Hosts.{PlainHost, Steps, host_of, step_of}
+use Rattle.rvm_host.specs.Looks.{asked_guest}
 use Rattle.rvm_host.specs.Retiring.{AreRetired, HostRetires, IsLast}
 use Rattle.rvm_board.specs.declared.retiring.Retired as told
+use Rattle.rvm_board.specs.declared.snapshot.Snapshot.{Snapshot}
 use Rattle.rvm_frame.specs.declared.addressed.Addressed.{Addressed}
 use Rattle.rvm_hart.specs.declared.outcome.Stepped.{Stepped}
 use Rattle.rvm_hart.specs.declared.outcome.Stepped.TheVariants.{Retired}
 use Rattle.rvm_message.specs.declared.event.HostEvent.{HostEvent}
+use Rattle.rvm_message.specs.declared.reply.HostRefusal.{HostRefusal}
 use Rattle.rvm_message.specs.declared.reply.HostReply.{HostReply}
 use Rattle.rvm_message.specs.declared.step.StepReply.TheVariants as step
 use Rattle.rvm_message.specs.Events.{BoardHostEvent, event_of}
@@ -16,6 +19,8 @@ use Rattle.rvm_message.specs.Exchanges.{step_of_hart}
 use Rattle.rvm_message.specs.Steps.{reply_to_step}
 use Rattle.rvm_cell.specs.Events.{IsAnswer, IsMade, IsReached, next_at}
 use Rattle.rvm_cell.specs.Halts.{IsOfStep}
+use Rattle.rvm_cell.specs.Looks.{HasLooked, IsShown}
+use Rattle.rvm_source.specs.Looks.{IsLook}
 
 -- a host before any event
 pub at_first : (o : PlainHost) → IsReached o o
@@ -102,3 +107,12 @@ pub last_given : (o : PlainHost) (harts turn count : ℕ) (old new : PlainHost) 
 last_given o harts turn count old new made r h =
     last_made_given o ((turn + made.count) % harts) made.last h.between new
     (all_retired o harts made.count turn old h.between r h.retired) h.last
+
+-- what a look gave was shown
+pub shown : (o h : PlainHost) (seen : Result Snapshot HostRefusal) → IsReached o h → IsLook (asked_guest h.mode) seen
+    → HasLooked (IsShown o) seen
+shown o h seen r look = record {
+  guest = asked_guest h.mode;
+  shown = record { host = h; reached = r; shown = refl };
+  look = look;
+}

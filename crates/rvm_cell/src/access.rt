@@ -3,6 +3,7 @@
 ghost use Rattle.std.specs.Prelude.{◌≤◌, ◌∷◌, [], List, Option, None, IfOk, OnErr};
 ghost use Rattle.rvm_cell.specs.Asked.{AreAllOf, AreAnswered, IsCopy, IsTurn};
 ghost use Rattle.rvm_cell.specs.Halts.{HaltsSo};
+ghost use Rattle.rvm_cell.specs.Looks.{HasLooked};
 ghost use Rattle.rvm_message.specs.Exchanges.{PlainExchange, exchange};
 ghost use Rattle.rvm_message.specs.declared.event.Command.TheVariants.{Copy};
 ghost use Rattle.rvm_message.specs.declared.event.HostEvent.TheVariants.{Came, Do};
@@ -10,11 +11,12 @@ ghost use Rattle.rvm_message.specs.declared.event.HostEvent.TheVariants.{Came, D
 use crate::cell::HostCell;
 use crate::origin::{Hosting, Of, Opening};
 use crate::turns::Slice;
+use rvm_board::Snapshot;
 use rvm_frame::Frame;
 use rvm_host::HostStatus;
 use rvm_link::Made;
 use rvm_mem::PagedMemory;
-use rvm_message::{Command, HostReply};
+use rvm_message::{Command, HostRefusal, HostReply};
 use rvm_recorder::EventLog;
 use std::alloc::{AllocError, Global};
 use std::sync::Wait;
@@ -55,6 +57,11 @@ pub trait Access<L: Hosting> {
 
     /// The status of the host at the time of the call.
     fn status(&self) -> HostStatus;
+
+    /// All that the guest keeps beside its RAM at the time of the call, or why the host gives it no events. The host
+    /// stays as it is, and its log keeps nothing of the call.
+    fn snapshot(&self) -> Result<Snapshot, HostRefusal>
+        ensures { HasLooked L.showed result };
 }
 
 /// A thread's access to a host under a lock. It keeps no list of what it asked.
@@ -110,5 +117,9 @@ impl<'c, L: Opening, M: PagedMemory + Drop, J: EventLog + Drop, R: Wait> Access<
 
     fn status(&self) -> HostStatus {
         self.cell.status(self.rt)
+    }
+
+    fn snapshot(&self) -> Result<Snapshot, HostRefusal> {
+        self.cell.snapshot(self.rt)
     }
 }

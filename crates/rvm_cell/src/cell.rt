@@ -3,6 +3,7 @@
 ghost use Rattle.std.specs.Prelude.{◌≡◌, ◌≤◌, IfOk};
 ghost use Rattle.rvm_cell.specs.Events.{IsAnswer};
 ghost use Rattle.rvm_cell.specs.Halts.{HaltsSo};
+ghost use Rattle.rvm_cell.specs.Looks.{HasLooked, IsShown};
 ghost use Rattle.rvm_recorder.specs.Logs.{IsEmpty};
 ghost use Rattle.rvm_message.specs.declared.event.Command.TheVariants.{Copy};
 ghost use Rattle.rvm_message.specs.declared.event.HostEvent.TheVariants.{Came, Do};
@@ -11,11 +12,12 @@ use crate::copies::copy_some;
 use crate::origin::{Of, Opening};
 use crate::reached::Reached;
 use crate::turns::{Slice, make_slice};
+use rvm_board::Snapshot;
 use rvm_frame::Frame;
 use rvm_host::{Host, HostStatus};
 use rvm_link::Made;
 use rvm_mem::PagedMemory;
-use rvm_message::{Command, HostReply};
+use rvm_message::{Command, HostRefusal, HostReply};
 use rvm_recorder::EventLog;
 use rvm_refusal::LinkFault;
 use std::alloc::{AllocError, Global};
@@ -98,5 +100,13 @@ impl<L: Opening, M: PagedMemory + Drop, J: EventLog + Drop> HostCell<L, M, J> {
     /// The status of the host at the time of the call.
     pub fn status<R: Wait>(&self, rt: &R) -> HostStatus {
         self.lock.lock(rt).status()
+    }
+
+    /// All that the guest keeps beside its RAM at the time of the call, or why the host gives it no events. The host
+    /// stays as it is, and its log keeps nothing of the call.
+    pub fn snapshot<R: Wait>(&self, rt: &R) -> Result<Snapshot, HostRefusal>
+        ensures { HasLooked (IsShown L.opening) result }
+    {
+        self.lock.lock(rt).snapshot()
     }
 }

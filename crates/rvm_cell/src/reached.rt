@@ -4,6 +4,7 @@ ghost use Rattle.std.specs.Prelude.{◌≡◌, ◌-◌, ◌%◌, ◌^◌, ◌<�
 ghost use Rattle.rvm_cell.specs.Events.{IsAnswer, IsMade};
 ghost use Rattle.rvm_cell.specs.Halts.{IsOfStep};
 ghost use Rattle.rvm_cell.specs.Logs.{made_in};
+ghost use Rattle.rvm_cell.specs.Looks.{HasLooked, IsShown};
 ghost use Rattle.rvm_recorder.specs.Logs.{IsEmpty};
 ghost use Rattle.rvm_host.specs.Hosts.{Steps};
 ghost use Rattle.rvm_host.specs.Retiring.{HostRetires};
@@ -15,12 +16,12 @@ ghost use Rattle.rvm_message.specs.Steps.{reply_to_step};
 ghost use Rattle.rvm_message.specs.declared.step.StepReply.TheVariants.{Stepped};
 
 use crate::origin::{Of, Opening};
-use rvm_board::Retired;
+use rvm_board::{Retired, Snapshot};
 use rvm_frame::{Addressed, Frame};
 use rvm_host::{Host, HostStatus};
 use rvm_link::Made;
 use rvm_mem::PagedMemory;
-use rvm_message::{Command, HostReply, StepReply};
+use rvm_message::{Command, HostRefusal, HostReply, StepReply};
 use rvm_recorder::EventLog;
 use rvm_refusal::LinkFault;
 use std::alloc::{AllocError, Global};
@@ -146,6 +147,14 @@ impl<L: Opening, M: PagedMemory + Drop, J: EventLog + Drop> Reached<L, M, J> {
         ensures { result ≡ status_of self.now }
     {
         self.host.status()
+    }
+
+    /// All that the guest keeps beside its RAM, or why the host gives it no events.
+    #[tactic(auto, using(crate::proofs::Events::shown))]
+    pub(crate) fn snapshot(&self) -> Result<Snapshot, HostRefusal>
+        ensures { HasLooked (IsShown L.opening) result }
+    {
+        self.host.snapshot()
     }
 }
 

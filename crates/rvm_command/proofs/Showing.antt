@@ -1,20 +1,29 @@
 -- What an extended session shows of a guest.
-use Rattle.std.proofs.Common.{◌≡◌, ◌∙◌, ℕ, zero, suc, ◌+◌, ◌/◌, ◌%◌, ◌<◌, ◌≤◌, List, [], ◌∷◌, ◌++◌, codes, Option, length, take, drop, get_or, slice_index, refl, sym, ap, subst, append_assoc, append-nil, arith}
+use Rattle.std.proofs.Common.{◌≡◌, ◌∙◌, ℕ, zero, suc, ◌+◌, ◌/◌, ◌%◌, ◌<◌, ◌≤◌, nat_lt, Bool, true, false, if◌then◌else◌, List, [], ◌∷◌, ◌++◌, codes, Option, None, Result, Ok, Err, OnOk, length, take, drop, get_or, slice_index, refl, sym, ap, subst, append_assoc, append-nil, arith}
 use Rattle.std.proofs.lemmas.List.{drop_more, drop_all, take-append-drop}
 use Rattle.std.proofs.lemmas.List.FromFn.{get_or-map-range_with_len, length-map-range_with_len}
+use Rattle.std.proofs.lemmas.Bool.Decides.{nat_tests}
 use Rattle.std.specs.Io.KnownBytes.{Appends}
 use Rattle.hex.specs.Hex.{encode_lower, encode_with, lower_digits}
 use Rattle.rvm_csr.specs.Fields as csr
+use Rattle.rvm_csr.specs.declared.interrupts.Interrupts.{Interrupts}
 use Rattle.rvm_csr.specs.Registers.{CsrState}
+use Rattle.rvm_hart.specs.Bus.{mip_of}
 use Rattle.rvm_hart.specs.Machine.{HartState}
+use Rattle.rvm_board.specs.declared.event.BoardRefusal.TheVariants.{BadHart}
+use Rattle.rvm_board.specs.declared.event.BoardReply.TheVariants.{Refused}
 use Rattle.rvm_board.specs.declared.part.HartPart.{HartPart}
+use Rattle.rvm_board.specs.declared.snapshot.Snapshot.{Snapshot}
 use Rattle.rvm_board.specs.Board.{hart_at, new_hart}
 use Rattle.rvm_board.specs.Guest.{Guest}
 use Rattle.rvm_board.specs.Parts.{CanBeHeld, part_of}
-use Rattle.rvm_board.specs.Restoring.{AreHeld}
+use Rattle.rvm_board.specs.Restoring.{AreHeld, CanBeRestored}
+use Rattle.rvm_board.specs.Snapshot.{state_in}
 use Rattle.rvm_board.specs.State.{State, guest_of, numbered, parts_of, state_of}
 use Rattle.rvm_debug.proofs.Running.{appends_more, appends_none}
-use Rattle.rvm_command.specs.ExtendedAnswers.{console_text, devices_text, halted_text, hart_line, hart_lines, queue_text, timer_text}
+use Rattle.rvm_debug.specs.Answers.{reply_text}
+use Rattle.rvm_source.specs.Looks.{IsSnapshotOf}
+use Rattle.rvm_command.specs.ExtendedAnswers.{console_text, csrs_answer, csrs_text, devices_text, halted_text, hart_line, hart_lines, queue_text, timer_text}
 
 -- THE REGISTERS
 
@@ -48,10 +57,18 @@ csrs_shown h g bytes p file lt whole is restored =
     restored ∙ ap (λ (q : HartPart). csr.with_number h q.fields.csrs) is
     ∙ ap (λ k. record s { hart = k }) (sym (hart_number h g bytes lt whole))
 
-pub in_parts : (h : ℕ) (g : Guest) (parts : List HartPart) → h < length g.board.harts → parts ≡ parts_of g → h < length parts
-in_parts h g parts lt is =
-    let count : length parts ≡ length g.board.harts = ap (λ (ps : List HartPart). length ps) is ∙ length-map-range_with_len (λ h. part_of h g) 0 (length g.board.harts) in
+-- a snapshot has each hart of its guest
+pub same_count : (g : Guest) (s : Snapshot) → IsSnapshotOf g s → length s.harts.items ≡ length g.board.harts
+same_count g s is = ap (λ (x : State). length x.harts) is.state ∙ length-map-range_with_len (λ h. part_of h g) 0 (length g.board.harts)
+
+pub in_guest : (h : ℕ) (g : Guest) (s : Snapshot) → IsSnapshotOf g s → h < length s.harts.items → h < length g.board.harts
+in_guest h g s is lt =
+    let count = same_count g s is in
     omega (arith, lt, count)
+
+pub kept_at : (h : ℕ) (g : Guest) (s : Snapshot) (parts : List HartPart) (d : HartPart) → IsSnapshotOf g s → h < length s.harts.items
+    → parts ≡ s.harts.items → get_or parts h d ≡ part_of h g
+kept_at h g s parts d is lt same = part_at h g parts d (in_guest h g s is lt) (same ∙ ap (λ (x : State). x.harts) is.state)
 
 -- what is kept for a hart can be restored
 held_at : (size i : ℕ) (ps : List HartPart) (d : HartPart) → i < length ps → AreHeld size ps → CanBeHeld size (get_or ps i d)
@@ -153,3 +170,39 @@ devices_written s harts input output a b c d e f h of_harts of_input of_output t
     (appends_more a d e t3 (queue_text (codes "output") s.output)
     (appends_more a c d t2 (queue_text (codes "input") s.input)
     (appends_more a b c t1 (hart_lines 0 s.harts) timer lines') first') second') console) halted
+
+-- THE ANSWER TO `csrs H`
+
+chosen : (b c : Bool) (x y : List ℕ) → b ≡ c → (if b then x else y) ≡ (if c then x else y)
+chosen b c x y e = ap (λ (d : Bool). if d then x else y) e
+
+-- a hart that is none of the guest's is refused
+pub csrs_refused : {A E : Type 0} (h : ℕ) (s : Snapshot) (r : Result A E) (before now : Option (List ℕ)) → length s.harts.items ≤ h
+    → OnOk r (Appends before now (reply_text None (Refused BadHart)))
+    → OnOk r ((g : Guest) → IsSnapshotOf g s → Appends before now (csrs_answer h g))
+csrs_refused h s (Err e) before now le written = tt
+csrs_refused h s (Ok x) before now le written = λ g is.
+    let count = same_count g s is in
+    let refused : nat_lt h (length g.board.harts) ≡ false = grind (arith, nat_tests) in
+    subst (Appends before now)
+    (sym (chosen (nat_lt h (length g.board.harts)) false (csrs_text (mip_of h g.board.shared.devices) (hart_at h g.board).csrs) (reply_text None (Refused BadHart)) refused)) written
+
+-- the registers of one of the guest's harts are written
+pub csrs_written : {A E : Type 0} (h : ℕ) (s : Snapshot) (r : Result A E) (before now : Option (List ℕ)) (mip : Interrupts) (csrs : CsrState)
+    → h < length s.harts.items → ((g : Guest) → IsSnapshotOf g s → csrs ≡ (hart_at h g.board).csrs)
+    → ((g : Guest) → IsSnapshotOf g s → mip ≡ mip_of h g.board.shared.devices)
+    → OnOk r (Appends before now (csrs_text mip csrs)) → OnOk r ((g : Guest) → IsSnapshotOf g s → Appends before now (csrs_answer h g))
+csrs_written h s (Err e) before now mip csrs lt same pending written = tt
+csrs_written h s (Ok x) before now mip csrs lt same pending written = λ g is.
+    let in_it = in_guest h g s is lt in
+    let there : nat_lt h (length g.board.harts) ≡ true = grind (arith, nat_tests) in
+    subst (Appends before now)
+    (ap (λ (m : Interrupts). csrs_text m csrs) (pending g is)
+    ∙ ap (λ (c : CsrState). csrs_text (mip_of h g.board.shared.devices) c) (same g is)
+    ∙ sym (chosen (nat_lt h (length g.board.harts)) true (csrs_text (mip_of h g.board.shared.devices) (hart_at h g.board).csrs) (reply_text None (Refused BadHart)) there)) written
+
+-- THE ANSWERS OF A SESSION
+
+pub snapshot_is : (g : Guest) (s : Snapshot) → state_in s ≡ state_of g → guest_of g.board.shared.bytes (state_of g) ≡ g
+    → CanBeRestored (length g.board.shared.bytes) (state_in s) → IsSnapshotOf g s
+snapshot_is g s state whole held = record { state = state; whole = whole; held = held }

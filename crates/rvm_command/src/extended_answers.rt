@@ -6,20 +6,20 @@ ghost use Rattle.hex.specs.Hex.{encode_lower};
 ghost use Rattle.rvm_csr.specs.Table.{value_of};
 ghost use Rattle.rvm_hart.specs.Bus.{mip_of};
 ghost use Rattle.rvm_board.specs.Board.{hart_at};
+ghost use Rattle.rvm_board.specs.Guest.{Guest};
 ghost use Rattle.rvm_board.specs.Snapshot.{state_in};
-ghost use Rattle.rvm_board.specs.State.{state_of};
 ghost use Rattle.rvm_command.specs.ExtendedScript.{found_text};
 ghost use Rattle.rvm_command.specs.FaultTexts.{fault_text};
+ghost use Rattle.rvm_source.specs.Looks.{IsSnapshotOf};
 ghost use Rattle.rvm_command.specs.ExtendedAnswers.{console_text, counters_text, csrs_answer, csrs_text, devices_text, halted_text, handling_text, hart_line, hart_lines, number_text, queue_text, setup_text, timer_text, turns_text};
 
 use crate::fault::{Fault, write_fault};
 use crate::find_fault::Search;
-use rvm_board::{BoardRefusal, BoardReply, Debugged, HartPart, Snapshot, Stop};
+use rvm_board::{BoardRefusal, BoardReply, HartPart, Snapshot, Stop};
 use rvm_csr::{Csr, CsrFile, Interrupts};
 use rvm_debug::write_reply;
 use rvm_dev::DeviceFields;
 use rvm_dis::Digits;
-use rvm_mem::Memory;
 use rvm_refusal::LinkFault;
 use rvm_text::write_hex;
 use rvm_word::{high_half, low_half};
@@ -107,29 +107,27 @@ impl HartCsrs {
     }
 }
 
-/// Writes the control and status registers of a hart; if there is no such hart, writes that `BadHart` refuses it.
-/// `LinkFault` if the writer fails.
-pub fn write_csrs<M: Memory, W: Write>(
-    writer: &mut W,
-    board: &Debugged<M>,
-    hart: u32,
-) -> Result<(), LinkFault>
-    ensures { OnOk result (Appends (W.contents writer.old) (W.contents writer.new)
-        (csrs_answer hart board.now.guest)) }
+/// Writes the control and status registers of a hart of the guest that a snapshot is of; if there is no such hart,
+/// writes that `BadHart` refuses it. `LinkFault` if the writer fails.
+pub fn write_csrs<W: Write>(writer: &mut W, snapshot: &Snapshot, hart: u32) -> Result<(), LinkFault>
+    requires { (guest : Guest) × IsSnapshotOf guest snapshot.now }
+    ensures { OnOk result ((guest : Guest) → IsSnapshotOf guest snapshot.now
+        → Appends (W.contents writer.old) (W.contents writer.new) (csrs_answer hart guest)) }
 {
-    if hart >= board.harts() {
+    if hart as usize >= snapshot.harts.len() {
         return write_reply(writer, None, &BoardReply::Refused(BoardRefusal::BadHart));
     }
-    write_hart_csrs(writer, &csrs_at(board, hart))
+    write_hart_csrs(writer, &csrs_at(snapshot, hart))
 }
 
 /// The control and status registers of a hart, and the interrupts that are pending at it.
-fn csrs_at<M: Memory>(board: &Debugged<M>, hart: u32) -> HartCsrs
-    requires { hart < length board.now.guest.board.harts }
-    ensures csrs { result.csrs ≡ (hart_at hart board.now.guest.board).csrs }
-    ensures mip { result.mip ≡ mip_of hart board.now.guest.board.shared.devices }
+fn csrs_at(snapshot: &Snapshot, hart: u32) -> HartCsrs
+    requires hart { hart < length snapshot.now.harts.items }
+    requires guest { (guest : Guest) × IsSnapshotOf guest snapshot.now }
+    ensures csrs { (guest : Guest) → IsSnapshotOf guest snapshot.now → result.csrs ≡ (hart_at hart guest.board).csrs }
+    ensures mip { (guest : Guest) → IsSnapshotOf guest snapshot.now
+        → result.mip ≡ mip_of hart guest.board.shared.devices }
 {
-    let snapshot = board.snapshot();
     let part = snapshot.harts.as_slice()[hart as usize];
     let devices = snapshot.devices;
     let mip = Interrupts {
@@ -204,20 +202,9 @@ fn write_number<W: Write>(writer: &mut W, hart: &HartCsrs) -> Result<(), LinkFau
     Ok(())
 }
 
-/// Writes what the devices keep: the timer, the words of each hart, the console, and the status of a board that is
-/// halted. `LinkFault` if the writer fails.
-pub fn write_devices<M: Memory, W: Write>(
-    writer: &mut W,
-    board: &Debugged<M>,
-) -> Result<(), LinkFault>
-    ensures { OnOk result (Appends (W.contents writer.old) (W.contents writer.new)
-        (devices_text (state_of board.now.guest))) }
-{
-    write_snapshot(writer, &board.snapshot())
-}
-
-/// Writes what the devices keep in a snapshot.
-fn write_snapshot<W: Write>(writer: &mut W, snapshot: &Snapshot) -> Result<(), LinkFault>
+/// Writes what the devices keep of the guest that a snapshot is of: the timer, the words of each hart, the console, and
+/// the status of a board that is halted. `LinkFault` if the writer fails.
+pub fn write_devices<W: Write>(writer: &mut W, snapshot: &Snapshot) -> Result<(), LinkFault>
     ensures { OnOk result (Appends (W.contents writer.old) (W.contents writer.new)
         (devices_text (state_in snapshot.now))) }
 {

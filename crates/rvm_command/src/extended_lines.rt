@@ -3,6 +3,8 @@
 ghost use Rattle.std.specs.Prelude.{◌≡◌, ◌+◌, ◌%◌, ◌^◌, ◌<◌, ◌≤◌, length, IfOk, OnErr, OnOk};
 ghost use Rattle.std.specs.Io.KnownBytes.{Appends};
 ghost use Rattle.rvm_mem.specs.Pages.{mark_all};
+ghost use Rattle.rvm_board.specs.State.{state_of};
+ghost use Rattle.rvm_command.specs.ExtendedAnswers.{csrs_answer, devices_text};
 ghost use Rattle.rvm_command.specs.ExtendedRuns.{IsAnswered};
 ghost use Rattle.rvm_command.specs.ExtendedScript.{extended_done_by, find_done, turns_done};
 
@@ -39,16 +41,38 @@ pub fn do_extended_line<M: Memory, W: Write>(
             Ok(turns)
         }
         ExtendedLine::Csrs(hart) => {
-            write_csrs(writer, board, hart)?;
+            show_csrs(board, hart, writer)?;
             Ok(turns)
         }
         ExtendedLine::Devices => {
-            write_devices(writer, board)?;
+            show_devices(board, writer)?;
             Ok(turns)
         }
         ExtendedLine::Turns(count) => make_turns(board, turns, count, writer),
         ExtendedLine::FindFault(count) => search(board, turns, count, writer),
     }
+}
+
+/// Writes the control and status registers of a hart; if there is no such hart, writes that `BadHart` refuses it.
+/// `LinkFault` if the writer fails.
+fn show_csrs<M: Memory, W: Write>(
+    board: &Debugged<M>,
+    hart: u32,
+    writer: &mut W,
+) -> Result<(), LinkFault>
+    ensures { OnOk result (Appends (W.contents writer.old) (W.contents writer.new)
+        (csrs_answer hart board.now.guest)) }
+{
+    write_csrs(writer, &board.snapshot(), hart)
+}
+
+/// Writes what the devices keep: the timer, the words of each hart, the console, and the status of a board that is
+/// halted. `LinkFault` if the writer fails.
+fn show_devices<M: Memory, W: Write>(board: &Debugged<M>, writer: &mut W) -> Result<(), LinkFault>
+    ensures { OnOk result (Appends (W.contents writer.old) (W.contents writer.new)
+        (devices_text (state_of board.now.guest))) }
+{
+    write_devices(writer, &board.snapshot())
 }
 
 /// Makes at most `count` turns of the harts in their order, from turn `turns` on, and writes how they ended. Returns

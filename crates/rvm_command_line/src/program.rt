@@ -140,6 +140,7 @@ Lines, beside those of `rvmove debug`:
   status                the mode of the host, its connections and the turns that the guest made here
   stop [now]            ends the process; without `now` only while no guest is here
   begin [HOST] [R L F], copy, resend, abort   the steps of a move, as in `rvmove script`
+  csrs H, devices       control and status registers, and devices, as in `rvmove debug --extended`
 Where standard error is a terminal, it shows how far a move has come. The status is 0 if all that was asked
 happened, 1 if something did not, 3 if an answer was lost: then ask for the status of the host.";
 

@@ -8,4 +8,5 @@ pub mod Running
 pub mod Retiring
 pub mod Drying
 mod Refused
+mod Looks
 pub mod Sends

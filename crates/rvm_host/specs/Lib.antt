@@ -6,3 +6,4 @@ pub mod Spelled
 pub mod Turns
 pub mod Retiring
 pub mod Statuses
+pub mod Looks

@@ -2,6 +2,7 @@
 
 ghost use Rattle.std.specs.Prelude.{◌≡◌, ◌↔◌, ◌<◌, ◌≤◌, ℕ, true, false, IfOk, IfErr, IfSome, IsErr, OnErr, None, option_map};
 ghost use Rattle.rvm_board.specs.Guest.{GuestState};
+ghost use Rattle.rvm_board.specs.declared.event.BoardEvent.{BoardEvent};
 ghost use Rattle.rvm_message.specs.Events.{command_of, event_of};
 ghost use Rattle.rvm_message.specs.Exchanges.{dry_exchange, step_of_hart};
 ghost use Rattle.rvm_message.specs.Replies.{is_refused_outright};
@@ -15,16 +16,18 @@ ghost use Rattle.rvm_protocol.specs.Host.{is_heard, is_offer_above, is_there};
 ghost use Rattle.rvm_protocol.specs.Modes.{guest_in};
 ghost use Rattle.rvm_host.specs.Bounds.{CanBePosted, addressed, frame_bound};
 ghost use Rattle.rvm_host.specs.Hosts.{Steps, host_of, is_sized, new_host, partner_of, step_of, version_of};
+ghost use Rattle.rvm_host.specs.Looks.{asked_guest, reply_by};
 ghost use Rattle.rvm_host.specs.Memory.{asks_memory, needs_memory, takes_memory};
 ghost use Rattle.rvm_host.specs.Retiring.{HostRetires};
 ghost use Rattle.rvm_host.specs.Statuses.{harts_of, status_of};
 ghost use Rattle.rvm_host.specs.Turns.{HasLog, turned};
+ghost use Rattle.rvm_source.specs.Looks.{IsLook};
 
 use crate::bound::{came_body, with_header};
 use crate::limits::{BadSize, is_spoken, version_of};
 use crate::mode::Mode;
 use crate::status::HostStatus;
-use rvm_board::{Debugged, Retired, Turns};
+use rvm_board::{Debugged, Retired, Snapshot, Turns};
 use rvm_frame::{Addressed, Frame};
 use rvm_mem::PagedMemory;
 use rvm_message::{Command, HostEvent, HostRefusal, HostReply, StepReply, can_come};
@@ -337,6 +340,18 @@ impl<M: PagedMemory + Drop> Host<M> {
         ensures bound { IfSome result (λ n. (0 < n) × (n ≤ 8)) }
     {
         self.mode.harts()
+    }
+
+    /// Returns all that the guest keeps beside its RAM, if the guest runs here, also while it is offered or copied to
+    /// another host. Else refuses: with `Paused` if the guest is paused here, and with `NotHere` if it is not here. So
+    /// it is refused where each event of the guest is, and with the same refusal. Takes no memory.
+    #[tactic(auto, using(crate::proofs::Looks::replied))]
+    pub fn snapshot(&self) -> Result<Snapshot, HostRefusal>
+        ensures look { IsLook (asked_guest self.now.mode) result }
+        ensures events { (event : BoardEvent) → (step_of self.now (commands.Do (commands.Board event))).reply
+            ≡ reply_by (asked_guest self.now.mode) event }
+    {
+        self.mode.snapshot()
     }
 
     /// Ends the host. Returns the whole guest, if it is here: whether it runs, leaves, or waits for the source to commit.

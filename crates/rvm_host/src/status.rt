@@ -1,11 +1,15 @@
-//! The status of a host.
+//! The status of a host, and looks at its guest.
 
 ghost use Rattle.std.specs.Prelude.{◌≡◌, ◌≤◌, ◌<◌, IfSome};
+ghost use Rattle.rvm_host.specs.Looks.{asked_guest};
 ghost use Rattle.rvm_host.specs.Modes.{plain_of};
 ghost use Rattle.rvm_host.specs.Statuses.{harts_of, kind_of, phase_kind};
+ghost use Rattle.rvm_source.specs.Looks.{IsLook};
 
 use crate::mode::Mode;
+use rvm_board::Snapshot;
 use rvm_mem::PagedMemory;
+use rvm_message::HostRefusal;
 use rvm_source::Phase;
 
 /// The kind of a host's mode. If the host is the source of a move, it tells the move's phase.
@@ -62,6 +66,20 @@ impl<M: PagedMemory + Drop> Mode<M> {
             Mode::Run { guest, .. } => Some(guest.harts()),
             Mode::Leaving(source) => Some(source.harts()),
             _ => None,
+        }
+    }
+
+    /// All that the guest keeps beside its RAM, or why it is given no events.
+    pub(crate) fn snapshot(&self) -> Result<Snapshot, HostRefusal>
+        ensures { IsLook (asked_guest (plain_of self.now)) result }
+    {
+        match self {
+            Mode::Run { guest, .. } => Ok(guest.snapshot()),
+            Mode::Leaving(source) => source.snapshot(),
+            Mode::Held { .. } => Err(HostRefusal::Paused),
+            Mode::Empty { .. } | Mode::Given { .. } | Mode::Staging { .. } => Err(
+                HostRefusal::NotHere,
+            ),
         }
     }
 }

@@ -4,3 +4,4 @@ pub mod Bounds
 pub mod Turns
 pub mod Retiring
 pub mod Quiet
+pub mod Looks

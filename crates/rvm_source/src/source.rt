@@ -19,6 +19,7 @@ ghost use Rattle.rvm_message.specs.Sendable.{CanBeSent};
 ghost use Rattle.rvm_message.specs.Steps.{reply_to_step};
 ghost use Rattle.rvm_board.specs.declared.event.BoardEvent.TheVariants.{Step};
 ghost use Rattle.rvm_source.specs.Bounds.{body_bound, is_copied};
+ghost use Rattle.rvm_source.specs.Looks.{IsLook, source_asked};
 ghost use Rattle.rvm_source.specs.Sources.{HasPages, is_offering, is_stopped, mode_of};
 ghost use Rattle.rvm_source.specs.Quiet.{IsQuiet};
 ghost use Rattle.rvm_source.specs.Retiring.{SourceRetires};
@@ -27,7 +28,7 @@ ghost use Rattle.rvm_source.specs.Turns.{source_turned};
 use crate::page::{COPY_BODY, page_frame};
 use crate::phase::Phase;
 use crate::state::{send_state, state_bound};
-use rvm_board::{BoardEvent, Debugged, NO_STEPS, Retired, Turns};
+use rvm_board::{BoardEvent, Debugged, NO_STEPS, Retired, Snapshot, Turns};
 use rvm_frame::{Frame, PagePart};
 use rvm_mem::{Memory, PageSet, PagedMemory};
 use rvm_message::{
@@ -197,6 +198,16 @@ impl<M: PagedMemory> Source<M> {
         match self.phase {
             Phase::Stopped { .. } => StepReply::Refused(HostRefusal::Paused),
             Phase::Offering | Phase::Copying => step_guest(&mut self.guest, hart),
+        }
+    }
+
+    /// Returns all that the guest keeps beside its RAM; refuses with `Paused` if the guest is paused. Takes no memory.
+    pub fn snapshot(&self) -> Result<Snapshot, HostRefusal>
+        ensures { IsLook (source_asked self.now) result }
+    {
+        match self.phase {
+            Phase::Stopped { .. } => Err(HostRefusal::Paused),
+            Phase::Offering | Phase::Copying => Ok(self.guest.snapshot()),
         }
     }
 

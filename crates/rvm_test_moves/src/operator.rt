@@ -6,7 +6,7 @@ use std::sync::Wait;
 use std::time::{Clock, Duration};
 use std::{io, thread};
 
-/// The most times that a host is asked for its status, 10 milliseconds apart.
+/// The most times that a host is asked the same, 10 milliseconds apart.
 const TRIES: u32 = 6000;
 
 /// What a host answered.
@@ -45,8 +45,18 @@ pub fn await_status<R: AllocGlobal + Net + Wait + Clock>(
     host: SocketAddr,
     text: &str,
 ) -> anyhow::Result<bool> {
+    await_answer(rt, host, "status", text)
+}
+
+/// Waits until what a host answers to a line contains a text. Returns whether it does in time.
+pub fn await_answer<R: AllocGlobal + Net + Wait + Clock>(
+    rt: &R,
+    host: SocketAddr,
+    line: &str,
+    text: &str,
+) -> anyhow::Result<bool> {
     for _try in 0..TRIES {
-        if tell(rt, host, "status")?.has(text) {
+        if tell(rt, host, line)?.has(text) {
             return Ok(true);
         }
         thread::sleep(rt, Duration::from_millis(10));

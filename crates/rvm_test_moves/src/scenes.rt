@@ -3,7 +3,7 @@
 use crate::breaker::Breaker;
 use crate::farm::{Farm, Start, new_seat, work_both};
 use crate::guest::{counting_image, numbers};
-use crate::operator::{Answer, await_status, tell};
+use crate::operator::{Answer, await_answer, await_status, tell};
 use std::net::{Net, SocketAddr};
 use std::random::RandomSource;
 use std::sync::atomic::{AtomicBool, AtomicU32, Ordering};
@@ -154,13 +154,34 @@ fn ask_in_vain<R: AllocGlobal + Print + Net + Wait + Clock>(
     for line in ["move B", "move A", "B move A", "abort", "moved", "stop"] {
         print_answer(rt, line, &tell(rt, farm.a.control, line)?)?;
     }
-    for line in ["move A", "regs 0"] {
+    for line in ["move A", "regs 0", "csrs 0", "devices", "turns 1"] {
         print_answer(rt, line, &tell(rt, farm.b.control, line)?)?;
     }
     tell_long_lines(rt, farm.a.control)?;
     let is_as_one_board = await_numbers(rt, &farm.screen)?;
+    look_at_the_end(rt, farm.a.control)?;
     end_both(rt, farm)?;
     println!(rt; "the guest ran on {is_as_one_board}")?;
+    Ok(())
+}
+
+/// Waits until the guest is halted at a host, and prints what looks at it show then.
+fn look_at_the_end<R: AllocGlobal + Print + Net + Wait + Clock>(
+    rt: &R,
+    host: SocketAddr,
+) -> anyhow::Result<()> {
+    let is_halted = await_answer(rt, host, "devices", "halted 0")?;
+    println!(rt; "the guest has halted {is_halted}")?;
+    for line in [
+        "csrs 0",
+        "A csrs 0",
+        "csrs 1",
+        "devices",
+        "B devices",
+        "devices 0",
+    ] {
+        print_answer(rt, line, &tell(rt, host, line)?)?;
+    }
     Ok(())
 }
 

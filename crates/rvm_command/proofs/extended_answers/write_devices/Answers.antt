@@ -1,6 +1,6 @@
 use Rattle.rvm_board.specs.Snapshot.{state_in}
 use Rattle.rvm_command.proofs.Showing.{devices_written}
-use Rattle.rvm_command.proofs.extended_answers.write_snapshot.Goals as goal
+use Rattle.rvm_command.proofs.extended_answers.write_devices.Goals as goal
 
 pub returns : goal.returns
 returns g c =
