@@ -17,7 +17,7 @@ use rvm_host::HostStatus;
 use rvm_link::Made;
 use rvm_mem::PagedMemory;
 use rvm_message::{Command, HostRefusal, HostReply};
-use rvm_recorder::EventLog;
+use rvm_recorder::{EventLog, Meeting};
 use std::alloc::{AllocError, Global};
 use std::sync::Wait;
 
@@ -54,6 +54,10 @@ pub trait Access<L: Hosting> {
         ensures asked { AreAllOf IsTurn L.gave (asked self.old) (asked self.new) }
         ensures most { result.made ≤ count }
         ensures halted { HaltsSo L.gave result.then };
+
+    /// Has the log of the host keep that another host was met, which is no event.
+    fn met(&mut self, meeting: Meeting)
+        ensures { AreAnswered L.gave (asked self.old) (asked self.new) [] };
 
     /// The status of the host at the time of the call.
     fn status(&self) -> HostStatus;
@@ -113,6 +117,10 @@ impl<'c, L: Opening, M: PagedMemory + Drop, J: EventLog + Drop, R: Wait> Access<
 
     fn slice(&mut self, turn: u64, count: u32) -> Slice {
         self.cell.slice(self.rt, turn, count)
+    }
+
+    fn met(&mut self, meeting: Meeting) {
+        self.cell.met(self.rt, meeting);
     }
 
     fn status(&self) -> HostStatus {

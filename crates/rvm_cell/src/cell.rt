@@ -18,7 +18,7 @@ use rvm_host::{Host, HostStatus};
 use rvm_link::Made;
 use rvm_mem::PagedMemory;
 use rvm_message::{Command, HostRefusal, HostReply};
-use rvm_recorder::EventLog;
+use rvm_recorder::{EventLog, Meeting};
 use rvm_refusal::LinkFault;
 use std::alloc::{AllocError, Global};
 use std::sync::{Mutex, Wait};
@@ -90,6 +90,11 @@ impl<L: Opening, M: PagedMemory + Drop, J: EventLog + Drop> HostCell<L, M, J> {
         ensures halted { HaltsSo (IsAnswer L.opening) result.then }
     {
         make_slice(&mut self.lock.lock(rt), turn, count)
+    }
+
+    /// Has the host's log keep that another host was met.
+    pub fn met<R: Wait>(&self, rt: &R, meeting: Meeting) {
+        self.lock.lock(rt).met(meeting);
     }
 
     /// Hands what was kept of the events at the host to whoever reads it. `LinkFault` if it is not all that happened.

@@ -22,7 +22,7 @@ use rvm_host::{Host, HostStatus};
 use rvm_link::Made;
 use rvm_mem::PagedMemory;
 use rvm_message::{Command, HostRefusal, HostReply, StepReply};
-use rvm_recorder::EventLog;
+use rvm_recorder::{EventLog, Meeting};
 use rvm_refusal::LinkFault;
 use std::alloc::{AllocError, Global};
 use std::marker::{Model, PhantomData};
@@ -133,6 +133,13 @@ impl<L: Opening, M: PagedMemory + Drop, J: EventLog + Drop> Reached<L, M, J> {
         ensures bound { IfSome result (λ n. (0 < n) × (n ≤ 8)) }
     {
         self.host.harts()
+    }
+
+    /// Keeps that another host was met.
+    pub(crate) fn met(&mut self, meeting: Meeting)
+        ensures { self.new ≡ self.old }
+    {
+        self.log.met(meeting);
     }
 
     /// Hands what was kept to whoever reads it. `LinkFault` if it is not all that happened.

@@ -4,6 +4,7 @@ use crate::process::Process;
 use crate::timed::Timed;
 use rvm_cell::Hosting;
 use rvm_greeting::{Greeted, GreetingFault, accept, greet};
+use rvm_recorder::Meeting;
 use std::io;
 use std::io::{Read, Write};
 use std::net::OpenStream;
@@ -62,6 +63,20 @@ pub(crate) fn meet_accepted<
     } = accept(&mut input, &mut output, &process.secret, &registry, &nonce)?;
     process.registry.lock(rt).meet(other.from, &facts)?;
     Ok(other.from)
+}
+
+/// What this host knows of another one that it met.
+pub(crate) fn meeting_with<L: Hosting, S: Read + Write + OpenStream + Drop, R: Wait>(
+    rt: &R,
+    process: &Process<L, S>,
+    other: u8,
+) -> Meeting {
+    let facts = process.registry.lock(rt).facts_for(other);
+    Meeting {
+        host: other,
+        process: facts.known,
+        world: facts.world,
+    }
 }
 
 /// Sets how long a write to a connection may take, and has the system hold nothing back. Returns another handle, to

@@ -1,7 +1,7 @@
 //! The thread that keeps the connection with one other host, and hears it.
 
 use crate::address::address_of;
-use crate::meeting::meet_connected;
+use crate::meeting::{meet_connected, meeting_with};
 use crate::outbound::Outbound;
 use crate::process::Process;
 use rvm_cell::{Access, Hosting, hear};
@@ -104,7 +104,7 @@ fn keep<L: Hosting, A: Access<L>, R: Net + Wait + Clock>(
     heard
 }
 
-/// Opens the route to a host over a connection, and hears it.
+/// Has this host's log keep that another host was met, opens the route to it over a connection, and hears it.
 fn open_and_hear<L: Hosting, A: Access<L>, R: Net + Wait + Clock>(
     rt: &R,
     process: &Process<L, R::Stream>,
@@ -116,6 +116,7 @@ fn open_and_hear<L: Hosting, A: Access<L>, R: Net + Wait + Clock>(
         return Err(io::Error::from(ErrorKind::OutOfMemory));
     };
     let mut input = BufReader::with_capacity(process.station.alloc, TOGETHER, stream)?;
+    access.met(meeting_with(rt, process, other));
     if process.station.routes.open(rt, other, output).is_ok() {
         process.station.news.raise(rt);
         let _end = hear(rt, &process.station, access, other, &mut input);

@@ -4,7 +4,8 @@ use Rattle.std.specs.Fmt.{digits}
 use Rattle.hex.specs.Hex.{decode_pairs, encode_with}
 use Rattle.rvm_debug.specs.Words.{words_from}
 use Rattle.rvm_journal.specs.declared.header.Header.{Header}
-use Rattle.rvm_journal.specs.Headers.{header_of, long_in, text_of}
+use Rattle.rvm_journal.specs.Headers.{header_of, text_of}
+use Rattle.rvm_journal.specs.Numbers.{long_in}
 
 host_1_of_3 : Header
 host_1_of_3 = record { hosts = 3; host = 1; process = 7; world = 0; guest = None }

@@ -1,12 +1,12 @@
 -- The first line of a journal: its text, and what that text tells.
-use Rattle.std.specs.Prelude.{◌<◌, ◌≤◌, ℕ, ◌+◌, ◌-◌, ◌*◌, ◌^◌, ◌&&◌, nat_le, nat_lt, Bool, true, false, if◌then◌else◌, List, [], ◌∷◌, ◌++◌, take, Option, Some, None, IfSome, Result, Ok, Err, codes, option_map}
+use Rattle.std.specs.Prelude.{◌<◌, ◌≤◌, ℕ, nat_lt, Bool, true, false, if◌then◌else◌, List, [], ◌∷◌, ◌++◌, take, Option, Some, None, IfSome, Result, Ok, Err, codes, option_map}
 use Rattle.std.specs.Fmt.{decimal}
 use Rattle.std.specs.Str.{bytes_eq}
 use Rattle.hex.specs.Hex.{decode_sized, encode_lower}
 use Rattle.hex.specs.declared.error.FromHexError.{FromHexError}
 use Rattle.rvm_codec.specs.Codec.{◌>>=◌}
 use Rattle.rvm_debug.specs.Words.{lines, words}
-use Rattle.rvm_text.specs.Bytes.{is_digit}
+use Rattle.rvm_journal.specs.Numbers.{field, ranged}
 use Rattle.rvm_journal.specs.Told.{digest_behind, mark, no_digest, text_in}
 use Rattle.rvm_journal.specs.declared.header.Header.{Header}
 use Rattle.rvm_journal.specs.declared.header.Image.{Image}
@@ -28,30 +28,6 @@ abbrev pub text_of : Header → List ℕ
 text_of h =
     codes "journal 1 host " ++ decimal h.host ++ codes " of " ++ decimal h.hosts ++ codes " process "
     ++ decimal h.process ++ codes " world " ++ decimal h.world ++ guest_text h.guest
-
--- the number that decimal digits spell after others that spell n, if it is below 2 ^ 64
-abbrev pub long_after : (n : ℕ) → List ℕ → Option ℕ
-long_after n [] = Some n
-long_after n (b ∷ bs) =
-    if is_digit b && nat_lt (n * 10 + (b - 48)) (2 ^ 64) then long_after (n * 10 + (b - 48)) bs else None
-
--- the number of a word of decimal digits
-unfoldable pub long_in : List ℕ → Option ℕ
-long_in [] = None
-long_in (b ∷ bs) = long_after 0 (b ∷ bs)
-
--- a number that is in a range
-abbrev pub in_range : (low high : ℕ) → ℕ → Option ℕ
-in_range low high n = if nat_le low n && nat_le n high then Some n else None
-
--- the number of a word, if it is in a range
-abbrev pub ranged : (low high : ℕ) → (word : List ℕ) → Option ℕ
-ranged low high word = long_in word >>= in_range low high
-
--- the number after this word, if it is in a range, and the words after it
-abbrev pub field : (name : List ℕ) → (low high : ℕ) → List (List ℕ) → Option (ℕ × List (List ℕ))
-field name low high (w ∷ v ∷ ws) = if bytes_eq w name then option_map (λ n. (n, ws)) (ranged low high v) else None
-field name low high ws = None
 
 -- whether a form is that of plain bytes
 abbrev pub form_of : List ℕ → Option Bool

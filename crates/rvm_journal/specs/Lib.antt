@@ -1,5 +1,7 @@
+pub mod Numbers
 pub mod Noting
 pub mod Told
+pub mod Meetings
 pub mod Written
 pub mod Headers
 pub mod Replaying

@@ -5,6 +5,7 @@ use Rattle.hex.specs.Hex.{decode_of}
 use Rattle.hex.specs.declared.error.FromHexError.{FromHexError}
 use Rattle.rvm_board.specs.declared.event.BoardEvent.{BoardEvent}
 use Rattle.rvm_board.specs.declared.event.BoardEvent.TheVariants as board
+use Rattle.rvm_codec.specs.Codec.{◌>>=◌}
 use Rattle.rvm_debug.specs.declared.line.Line.{Line}
 use Rattle.rvm_debug.specs.declared.line.Line.TheVariants as guest
 use Rattle.rvm_debug.specs.Lines.{numeral}
@@ -21,9 +22,11 @@ use Rattle.rvm_core.specs.declared.world_line.Asked.TheVariants as asked
 use Rattle.rvm_core.specs.declared.world_line.WorldLine.{WorldLine}
 use Rattle.rvm_core.specs.declared.world_line.WorldLine.TheVariants as line
 use Rattle.rvm_core.specs.WorldLines.{world_line_of}
+use Rattle.rvm_recorder.specs.declared.log.Meeting.{Meeting}
 use Rattle.rvm_recorder.specs.Logs.{steps_from}
+use Rattle.rvm_journal.specs.Numbers.{field}
 use Rattle.rvm_journal.specs.declared.noted.Noted.{Noted}
-use Rattle.rvm_journal.specs.declared.noted.Noted.TheVariants.{Turns, Command as Commanded, Came, End}
+use Rattle.rvm_journal.specs.declared.noted.Noted.TheVariants.{Turns, Command as Commanded, Came, Met, End}
 
 -- turns of 1 to 8 harts, the first of which is that of one of them
 abbrev pub run_of : (first harts count : ℕ) → Option Noted
@@ -83,6 +86,19 @@ abbrev pub command_in : (host : ℕ) → Option WorldLine → Option Command
 command_in h (Some (line.Host (Some x) a)) = if x == h then commanded h a else None
 command_in h l = None
 
+-- a meeting, if no word comes after it
+abbrev pub meeting_if : Meeting → (rest : List (List ℕ)) → Option Meeting
+meeting_if m [] = Some m
+meeting_if m (w ∷ ws) = None
+
+-- the meeting that words tell: met HOST process PROCESS world WORLD
+abbrev pub meeting_in : List (List ℕ) → Option Meeting
+meeting_in ws =
+    field (codes "met") 0 7 ws >>= λ h.
+    field (codes "process") 0 18446744073709551615 h.1 >>= λ p.
+    field (codes "world") 0 18446744073709551615 p.1 >>= λ w.
+    meeting_if (record { host = h.0; process = p.0; world = w.0 }) w.1
+
 -- the end of a journal, if no word comes after `end`
 abbrev pub end_noted : List (List ℕ) → Option Noted
 end_noted [] = Some End
@@ -94,8 +110,9 @@ noted_by n h text [] = None
 noted_by n h text (w ∷ ws) =
     if bytes_eq w (codes "turns") then turns_noted ws
     else (if bytes_eq w (codes "came") then came_noted h ws
+    else (if bytes_eq w (codes "met") then option_map Met (meeting_in (w ∷ ws))
     else (if bytes_eq w (codes "end") then end_noted ws
-    else option_map Commanded (command_in h (world_line_of n text))))
+    else option_map Commanded (command_in h (world_line_of n text)))))
 
 -- what a text tells of host `host` of this many hosts; none if it tells nothing
 unfoldable pub noted_of : (hosts host : ℕ) → (text : List ℕ) → Option Noted
@@ -106,4 +123,5 @@ abbrev pub events_of : Noted → List HostEvent
 events_of (Turns run) = steps_from run.first run.harts run.count
 events_of (Commanded c) = event.Do c ∷ []
 events_of (Came from frame) = event.Came from frame ∷ []
+events_of (Met m) = []
 events_of End = []

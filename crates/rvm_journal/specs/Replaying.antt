@@ -9,7 +9,7 @@ use Rattle.rvm_recorder.specs.declared.error.RecordError.TheVariants as record_e
 use Rattle.rvm_recorder.specs.Entries.{PlainEntry}
 use Rattle.rvm_recorder.specs.History.{Recording, count_of}
 use Rattle.rvm_journal.specs.declared.noted.Noted.{Noted}
-use Rattle.rvm_journal.specs.declared.noted.Noted.TheVariants.{Turns, Command as Commanded, Came, End}
+use Rattle.rvm_journal.specs.declared.noted.Noted.TheVariants.{Turns, Command as Commanded, Came, Met, End}
 use Rattle.rvm_journal.specs.declared.replay.JournalFault.{JournalFault}
 use Rattle.rvm_journal.specs.declared.replay.JournalFault.TheVariants.{BadLine, TooLong, OutOfMemory}
 use Rattle.rvm_journal.specs.Noting.{noted_of}
@@ -146,6 +146,7 @@ abbrev pub HasHarts : Noted → Type 0
 HasHarts (Turns run) = (1 ≤ run.harts) × (run.harts ≤ 8)
 HasHarts (Commanded c) = ⊤
 HasHarts (Came from f) = ⊤
+HasHarts (Met m) = ⊤
 HasHarts End = ⊤
 
 -- what the text of a line tells, if the line shows this digest

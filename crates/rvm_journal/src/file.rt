@@ -11,9 +11,10 @@ ghost use Rattle.rvm_message.specs.declared.event.HostEvent.TheVariants.{Came, D
 use crate::digest::LineDigest;
 use crate::noted::Noted;
 use crate::run::Run;
-use crate::texts::{END, came_text, command_text, turns_text};
+use crate::texts::{END, came_text, command_text, met_text, turns_text};
 use rvm_frame::Frame;
 use rvm_message::Command;
+use rvm_recorder::Meeting;
 use rvm_refusal::LinkFault;
 use std::alloc::Global;
 use std::io::Write;
@@ -119,6 +120,16 @@ impl<W: Write + Drop> JournalFile<W> {
             return Err(LinkFault);
         }
         self.with_run(Run::of(turn, harts, count))
+    }
+
+    /// Adds the line of another host that was met.
+    #[tactic(auto, using(crate::proofs::Keeping::nothing_more))]
+    pub(crate) fn met(self, meeting: Meeting) -> Result<JournalFile<W>, LinkFault>
+        ensures { IfOk result (λ file. kept_of file ≡ kept_of self) }
+    {
+        let file = self.without_run()?;
+        let text = met_text(file.alloc, meeting)?;
+        file.line(&text, &Noted::Met(meeting))
     }
 
     /// Writes the turns that have no line yet and the line that ends the journal, and hands all that was written to the

@@ -1,11 +1,12 @@
 //! The first line of a journal.
 
-ghost use Rattle.std.specs.Prelude.{◌≡◌, ◌≤◌, IfOk, IfSome, MatchOption, None, OnOk, Some};
+ghost use Rattle.std.specs.Prelude.{◌≡◌, IfOk, IfSome, OnOk, Some};
 ghost use Rattle.std.specs.Io.KnownBytes.{Appends};
 ghost use Rattle.hex.specs.Hex.{decode_sized};
 ghost use Rattle.sha2.specs.Sha256.{sha256};
-ghost use Rattle.rvm_journal.specs.Headers.{IsRanged, IsSized, digest_if, field, form_of, guest_in, guest_text, header_of, image_in, long_in, no_guest_in, ranged, text_of};
+ghost use Rattle.rvm_journal.specs.Headers.{IsRanged, IsSized, digest_if, form_of, guest_in, guest_text, header_of, image_in, no_guest_in, text_of};
 
+use crate::numbers::{field, ranged};
 use hex::decode_to_slice;
 use rvm_debug::Words;
 use rvm_refusal::LinkFault;
@@ -81,53 +82,6 @@ impl Header {
             guest,
         })
     }
-}
-
-/// The number after the word `name`, if it is in this range; takes both words.
-fn field(words: &mut Words<'_>, name: &[u8], low: u64, high: u64) -> Option<u64>
-    ensures number { MatchOption result (field name.now low high words.old ≡ None)
-        (λ number. field name.now low high words.old ≡ Some (number, words.new)) }
-    ensures range { IfSome result (λ number. (low ≤ number) × (number ≤ high)) }
-{
-    let word = words.next()?;
-    let number = words.next()?;
-    if word != name {
-        return None;
-    }
-    ranged(number, low, high)
-}
-
-/// The number of a word of decimal digits, if it is in this range.
-fn ranged(word: &[u8], low: u64, high: u64) -> Option<u64>
-    ensures number { result ≡ ranged low high word.now }
-    ensures range { IfSome result (λ number. (low ≤ number) × (number ≤ high)) }
-{
-    let number = long_in(word)?;
-    if low <= number && number <= high {
-        Some(number)
-    } else {
-        None
-    }
-}
-
-/// The number of a word of decimal digits, if it is below 2^64.
-#[tactic(auto, unfolding(crate::specs::Headers::long_in))]
-fn long_in(word: &[u8]) -> Option<u64>
-    ensures { result ≡ long_in word.now }
-{
-    if word.is_empty() {
-        return None;
-    }
-    let mut number = 0u64;
-    for digit in word {
-        if !digit.is_ascii_digit() {
-            return None;
-        }
-        number = number
-            .checked_mul(10)?
-            .checked_add(u64::from(*digit - b'0'))?;
-    }
-    Some(number)
 }
 
 /// The guest that the last words of a header name.

@@ -5,14 +5,16 @@
 //! of a host and for the host that does again what a journal tells, and on `sha2` and `hex`. It must not know files,
 //! processes or threads.
 //!
-//! To be read in this order: `run`, `noted`, `digest`, `texts`, `header`, `file`, `writer`, `whole`, `replay`; `letter`.
+//! To be read in this order: `run`, `numbers`, `noted`, `digest`, `texts`, `header`, `file`, `writer`, `whole`, `replay`, `meeting`; `letter`.
 #![tactic(auto)]
 
 mod digest;
 mod file;
 mod header;
 mod letter;
+mod meeting;
 mod noted;
+mod numbers;
 mod replay;
 mod run;
 mod texts;
@@ -22,6 +24,7 @@ mod writer;
 pub use digest::LineDigest;
 pub use header::{Header, Image};
 pub use letter::letter_of;
+pub use meeting::meeting_of;
 pub use noted::Noted;
 pub use replay::{JournalFault, is_whole, read_header, replay_journal};
 pub use run::Run;

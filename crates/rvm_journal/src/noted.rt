@@ -4,12 +4,14 @@ ghost use Rattle.std.specs.Prelude.{◌≡◌, IfOk, Ok, Some, length, option_ma
 ghost use Rattle.hex.specs.Hex.{decode_of};
 ghost use Rattle.rvm_core.specs.WorldLines.{world_line_of};
 ghost use Rattle.rvm_core.specs.declared.world_line.WorldLine.TheVariants as line;
+ghost use Rattle.rvm_debug.specs.Words.{words};
 ghost use Rattle.rvm_debug.specs.declared.line.Line.TheVariants as guest;
 ghost use Rattle.rvm_frame.specs.Verdict.{one_frame_of, verdict};
-ghost use Rattle.rvm_journal.specs.Noting.{bytes_noted, came_noted, command_in, commanded, end_noted, event_in, events_of, frame_noted, noted_of, run_of, target_of, turns_noted};
+ghost use Rattle.rvm_journal.specs.Noting.{bytes_noted, came_noted, command_in, commanded, end_noted, event_in, events_of, frame_noted, meeting_in, noted_of, run_of, target_of, turns_noted};
 ghost use Rattle.rvm_journal.specs.Replaying.{HasHarts, IsWanted, first_of};
-ghost use Rattle.rvm_journal.specs.declared.noted.Noted.TheVariants.{Command as Commanded};
+ghost use Rattle.rvm_journal.specs.declared.noted.Noted.TheVariants.{Command as Commanded, Met};
 
+use crate::numbers::field;
 use crate::run::Run;
 use hex::FromHexError;
 use rvm_board::{BoardEvent, MAX_HARTS};
@@ -17,6 +19,7 @@ use rvm_core::{Asked, WorldLine};
 use rvm_debug::{HexText, Line, Words, numeral, one_number};
 use rvm_frame::{Frame, ReadFault, Received, read_frame};
 use rvm_message::Command;
+use rvm_recorder::Meeting;
 use std::alloc::{AllocError, Global};
 
 /// The version of the streams between the hosts of a world whose hosts keep journals in files.
@@ -31,6 +34,8 @@ pub enum Noted {
     Command(Command),
     /// A frame that came from host `from`.
     Came { from: u8, frame: Frame },
+    /// Another host that was met.
+    Met(Meeting),
     /// The end of the journal: the host does nothing more.
     End,
 }
@@ -57,6 +62,9 @@ impl Noted {
         if word == b"came".as_slice() {
             return came(alloc, host, words);
         }
+        if word == b"met".as_slice() {
+            return Ok(met(text));
+        }
         if word == b"end".as_slice() {
             return Ok(end(words));
         }
@@ -71,7 +79,7 @@ impl Noted {
         match self {
             Noted::Turns(run) => run.count,
             Noted::Command(_) | Noted::Came { .. } => 1,
-            Noted::End => 0,
+            Noted::Met(_) | Noted::End => 0,
         }
     }
 
@@ -86,6 +94,7 @@ impl Noted {
             Noted::Turns(run) => Noted::Turns(run.up_to(most)),
             Noted::Command(command) => Noted::Command(command),
             Noted::Came { from, frame } => Noted::Came { from, frame },
+            Noted::Met(meeting) => Noted::Met(meeting),
             Noted::End => Noted::End,
         }
     }
@@ -115,6 +124,35 @@ fn run_of(first: u32, harts: u32, count: u32) -> Option<Noted>
     } else {
         None
     }
+}
+
+/// The meeting that a text tells.
+fn met(text: &[u8]) -> Option<Noted>
+    ensures { result ≡ option_map Met (meeting_in (words text.now)) }
+{
+    match meeting_in(Words::new(text)) {
+        Some(meeting) => Some(Noted::Met(meeting)),
+        None => None,
+    }
+}
+
+/// The meeting that words tell: after `met` the number of the host, after `process` that of its process, and after
+/// `world` that of the world.
+pub(crate) fn meeting_in(words: Words) -> Option<Meeting>
+    ensures { result ≡ meeting_in words.entry }
+{
+    let mut words = words;
+    let host = field(&mut words, b"met", 0, 7)?;
+    let process = field(&mut words, b"process", 0, u64::MAX)?;
+    let world = field(&mut words, b"world", 0, u64::MAX)?;
+    if !words.is_empty() {
+        return None;
+    }
+    Some(Meeting {
+        host: host as u8,
+        process,
+        world,
+    })
 }
 
 /// The end of a journal, if no word comes after `end`.

@@ -215,7 +215,7 @@ fn shows(line: &[u8], digest: &LineDigest) -> bool
 
 /// The text of a line, after what it shows of its digest; nothing if the line is shorter than that.
 #[tactic(auto, using(crate::proofs::Replayed::drop_short))]
-fn text_in(line: &[u8]) -> &[u8]
+pub(crate) fn text_in(line: &[u8]) -> &[u8]
     ensures { result.now ≡ text_in line.now }
 {
     &line[line.len().min(MARK)..]
@@ -272,7 +272,7 @@ fn do_noted<M: PagedMemory + Drop>(
         Noted::Turns(run) => do_turns(alloc, run, recorded),
         Noted::Command(command) => do_event(alloc, HostEvent::Do(command), recorded),
         Noted::Came { from, frame } => do_came(alloc, from, frame, recorded),
-        Noted::End => Ok(()),
+        Noted::Met(_) | Noted::End => Ok(()),
     }
 }
 

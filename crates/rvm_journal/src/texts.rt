@@ -5,6 +5,7 @@ use crate::run::Run;
 use rvm_core::{Event, write_event};
 use rvm_frame::{Addressed, Frame, frame_bytes, has_spelling};
 use rvm_message::Command;
+use rvm_recorder::Meeting;
 use rvm_refusal::LinkFault;
 use std::alloc::{AllocError, Global};
 use std::io::Write;
@@ -49,6 +50,17 @@ pub(crate) fn came_text(
     let mut text = Vec::new(alloc);
     write!(text, "came ")?;
     text.write_all(digits.as_bytes())?;
+    Ok(text)
+}
+
+/// The text of another host that was met.
+pub(crate) fn met_text(alloc: Global, meeting: Meeting) -> Result<Vec<u8>, LinkFault> {
+    let mut text = Vec::new(alloc);
+    write!(
+        text,
+        "met {} process {} world {}",
+        meeting.host, meeting.process, meeting.world
+    )?;
     Ok(text)
 }
 

@@ -10,7 +10,7 @@ use crate::file::JournalFile;
 use crate::header::{Header, header_text};
 use rvm_frame::Frame;
 use rvm_message::Command;
-use rvm_recorder::EventLog;
+use rvm_recorder::{EventLog, Meeting};
 use rvm_refusal::LinkFault;
 use std::alloc::Global;
 use std::io::Write;
@@ -64,6 +64,10 @@ impl<W: Write + Drop> EventLog for JournalWriter<W> {
         self.file = turned(self.file.take(), turn, harts, count);
     }
 
+    fn met(&mut self, meeting: Meeting) {
+        self.file = noted(self.file.take(), meeting);
+    }
+
     fn finish(&mut self) -> Result<(), LinkFault> {
         self.file = ended(self.file.take());
         match self.file {
@@ -107,6 +111,14 @@ fn turned<W: Write + Drop>(
     ensures { KeepsOn (option_and_then kept_of file) (option_and_then kept_of result) (steps_from turn harts count) }
 {
     file?.turns(turn, harts, count).ok()
+}
+
+/// A journal with the line of another host that was met, unless it has ended, or ends since the line cannot be written.
+#[tactic(auto, using(crate::proofs::Keeping::keeps_all, crate::proofs::Keeping::lost))]
+fn noted<W: Write + Drop>(file: Option<JournalFile<W>>, meeting: Meeting) -> Option<JournalFile<W>>
+    ensures { KeepsOn (option_and_then kept_of file) (option_and_then kept_of result) [] }
+{
+    file?.met(meeting).ok()
 }
 
 /// A journal with its last line, unless it has ended before, or ends since a line cannot be written.

@@ -39,7 +39,7 @@ pub use items::{ReceiptItem, push_receipt};
 pub use journal::Journal;
 pub use left::{Left, Told, exchange_in, hart_behind, row_at};
 pub use locked::Locked;
-pub use log::{EventLog, NoLog};
+pub use log::{EventLog, Meeting, NoLog};
 pub use receipt::Receipt;
 pub use recorded::{MAX_CAPACITY, Recorded};
 pub use round_receipts::RoundReceipts;

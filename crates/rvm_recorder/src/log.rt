@@ -9,6 +9,17 @@ use rvm_frame::Frame;
 use rvm_message::Command;
 use rvm_refusal::LinkFault;
 
+/// A host that was met, as its greeting told.
+#[derive(Clone, Copy, Debug, PartialEq, Eq)]
+pub struct Meeting {
+    /// The number of the host, from 0.
+    pub host: u8,
+    /// The number that the host's process drew at its start.
+    pub process: u64,
+    /// The number of the world to which both hosts belong; 0 if neither knows it.
+    pub world: u64,
+}
+
 /// Keeps the events that happen at a host, in their order.
 pub trait EventLog {
     /// The events that were kept, oldest first; none if not all of them were, or if it is not known which.
@@ -27,6 +38,10 @@ pub trait EventLog {
     fn turns(&mut self, turn: u64, harts: u32, count: u32)
         ensures { KeepsOn (kept self.old) (kept self.new) (steps_from turn harts count) };
 
+    /// Keeps that another host was met, which is no event.
+    fn met(&mut self, meeting: Meeting)
+        ensures { KeepsOn (kept self.old) (kept self.new) [] };
+
     /// Hands what was kept to whoever reads it. `LinkFault` if it is not all that happened: from some event on nothing
     /// was kept, since it could not be.
     fn finish(&mut self) -> Result<(), LinkFault>
@@ -43,6 +58,8 @@ impl EventLog for NoLog {
     fn came(&mut self, _from: u8, _frame: &Frame) {}
 
     fn turns(&mut self, _turn: u64, _harts: u32, _count: u32) {}
+
+    fn met(&mut self, _meeting: Meeting) {}
 
     #[tactic(auto, using(crate::proofs::Logs::nothing_kept))]
     fn finish(&mut self) -> Result<(), LinkFault> {
@@ -71,6 +88,13 @@ impl<J: EventLog> EventLog for Option<J> {
     fn turns(&mut self, turn: u64, harts: u32, count: u32) {
         if let Some(log) = self {
             log.turns(turn, harts, count);
+        }
+    }
+
+    #[tactic(auto, using(crate::proofs::Logs::nothing_kept))]
+    fn met(&mut self, meeting: Meeting) {
+        if let Some(log) = self {
+            log.met(meeting);
         }
     }
 

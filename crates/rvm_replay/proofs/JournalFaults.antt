@@ -10,7 +10,7 @@ use Rattle.rvm_replay.specs.declared.file.FileFault.{FileFault}
 use Rattle.rvm_replay.specs.declared.file.JournalFile.{JournalFile}
 use Rattle.rvm_replay.specs.declared.file.JournalsFault.{JournalsFault}
 use Rattle.rvm_replay.specs.declared.file.JournalsFault.TheVariants.{File, NoGuest, OutOfMemory}
-use Rattle.rvm_replay.specs.Audited.{header_number}
+use Rattle.rvm_replay.specs.Journals.{header_number}
 use Rattle.rvm_replay.specs.Unaudited.{IsHeadersFault, IsJournalsFault}
 
 -- what is wrong with headers is wrong with journals

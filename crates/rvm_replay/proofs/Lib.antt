@@ -2,6 +2,7 @@ mod OnlyOne
 mod AllHosts
 mod HostJournals
 mod JournalFaults
+pub mod Meetings
 mod AuditEnds
 mod Counting
 mod SummaryLines

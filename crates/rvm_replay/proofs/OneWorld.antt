@@ -19,7 +19,8 @@ use Rattle.rvm_journal.specs.declared.header.Image.{Image}
 use Rattle.rvm_replay.specs.declared.audit.AuditText.{AuditText}
 use Rattle.rvm_replay.specs.declared.file.JournalFile.{JournalFile}
 use Rattle.rvm_replay.specs.declared.headers.Wanted.TheVariants.{OfHost, WithGuest}
-use Rattle.rvm_replay.specs.Audited.{AreAudited, AreReplayed, HasDone, HasOneGuest, IsHostBy, IsOnlyOne, IsOrdered, header_number, is_wanted, journals_in}
+use Rattle.rvm_replay.specs.Audited.{AreAudited, AreReplayed, HasDone, HasOneGuest, IsHostBy, IsOnlyOne, IsOrdered, is_wanted, journals_in}
+use Rattle.rvm_replay.specs.Journals.{header_number}
 use Rattle.rvm_replay.specs.Journals.{IsGuestNamed}
 
 -- TESTS

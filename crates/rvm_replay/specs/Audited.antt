@@ -1,7 +1,6 @@
 -- Journals of the hosts of a world, in files: whose they are, what the hosts did, and the order of all of it.
 use Rattle.std.specs.Prelude.{◌≡◌, ◌⊎◌, ℕ, ◌<◌, ◌==◌, Bool, true, false, is_some, List, [], length, map, slice_get, Option, Some, None}
 use Rattle.std.specs.Io.KnownBytes.{Appends}
-use Rattle.std.specs.Option.{option_and_then}
 use Rattle.rvm_board.specs.Guest.{GuestState}
 use Rattle.rvm_guest.specs.TheGuest.{board}
 use Rattle.rvm_protocol.specs.World.{new_world}
@@ -15,18 +14,14 @@ use Rattle.rvm_core.specs.declared.event.Event.{Event}
 use Rattle.rvm_core.specs.EventLines.{event_lines}
 use Rattle.rvm_journal.specs.declared.header.Header.{Header}
 use Rattle.rvm_journal.specs.declared.header.Image.{Image}
-use Rattle.rvm_journal.specs.Headers.{header_at}
 use Rattle.rvm_replay.specs.declared.audit.AuditText.{AuditText}
 use Rattle.rvm_replay.specs.declared.audit.AuditText.TheVariants.{Order, Summary}
 use Rattle.rvm_replay.specs.declared.file.JournalFile.{JournalFile}
 use Rattle.rvm_replay.specs.declared.headers.Wanted.{Wanted}
 use Rattle.rvm_replay.specs.declared.headers.Wanted.TheVariants.{OfHost, WithGuest}
 use Rattle.rvm_replay.specs.Counts.{summary_of}
-use Rattle.rvm_replay.specs.Journals.{IsGuestNamed, IsHostOf}
-
--- the header of the journal with this index, if there is such a journal, and it has one
-abbrev pub header_number : List JournalFile → (index : ℕ) → Option Header
-header_number files i = option_and_then (λ f. header_at f.bytes.items) (slice_get files i)
+use Rattle.rvm_replay.specs.Journals.{IsGuestNamed, IsHostOf, header_number}
+use Rattle.rvm_replay.specs.Meetings.{HaveMet}
 
 -- whether a journal is wanted, by its header: the one whose host began with a guest, or that of a host
 abbrev pub is_wanted : Wanted → Option Header → Bool
@@ -56,7 +51,7 @@ abbrev pub HaveHeadersOf : List JournalFile → (n hosts world : ℕ) → Type 0
 HaveHeadersOf files n hosts world = (index : ℕ) → index < n → HasHeaderOf files hosts world index
 
 -- the journals are those of hosts of one world, which has this many: one of them, and no other, is of a host that began
--- with a guest, and the headers of all agree with its header
+-- with a guest, the headers of all agree with its header, and the hosts that they tell to have been met are these
 pub record AreOfWorld (files : List JournalFile) (hosts : ℕ) : Type 0 where
   pub first : ℕ
   pub opening : Header
@@ -64,6 +59,7 @@ pub record AreOfWorld (files : List JournalFile) (hosts : ℕ) : Type 0 where
   pub opening_is : header_number files first ≡ Some opening
   pub there : opening.host < hosts
   pub headers : HaveHeadersOf files (length files) hosts opening.world
+  pub met : HaveMet files (length files) opening.world
 
 -- a host that has no journal began without a guest, and did nothing
 pub record IsIdle (hosts host : ℕ) (r : Recording) : Type 0 where

@@ -11,7 +11,7 @@ use Rattle.rvm_journal.specs.declared.header.Image.{Image}
 use Rattle.rvm_journal.specs.Replaying as journal
 use Rattle.rvm_journal.specs.Replaying.{IsJournalFault}
 use Rattle.rvm_replay.specs.declared.file.FileFault.{FileFault}
-use Rattle.rvm_replay.specs.declared.file.FileFault.TheVariants.{NoHeader, SameHost, SecondGuest, OtherHosts, OtherWorld, NoImage, OtherImage, Image as BadImage, Journal as BadJournal}
+use Rattle.rvm_replay.specs.declared.file.FileFault.TheVariants.{NoHeader, SameHost, SecondGuest, OtherHosts, OtherWorld, OtherProcess, MetOtherWorld, NoImage, OtherImage, Image as BadImage, Journal as BadJournal}
 
 -- a header names a guest, and this is not the file of its image
 abbrev pub IsOtherImage : (guest : Option Image) → (file : List ℕ) → Type 0
@@ -37,6 +37,8 @@ IsGuestFault (SameHost letter) guest file = ⊥
 IsGuestFault SecondGuest guest file = ⊥
 IsGuestFault OtherHosts guest file = ⊥
 IsGuestFault OtherWorld guest file = ⊥
+IsGuestFault (OtherProcess letter) guest file = ⊥
+IsGuestFault MetOtherWorld guest file = ⊥
 IsGuestFault NoImage guest file = IsNoImage guest file
 IsGuestFault OtherImage guest file = IsWrongImage guest file
 IsGuestFault (BadImage why) guest file = IsBadImage why guest file
@@ -50,6 +52,8 @@ IsFileFault (SameHost letter) most header bytes image = ⊥
 IsFileFault SecondGuest most header bytes image = ⊥
 IsFileFault OtherHosts most header bytes image = ⊥
 IsFileFault OtherWorld most header bytes image = ⊥
+IsFileFault (OtherProcess letter) most header bytes image = ⊥
+IsFileFault MetOtherWorld most header bytes image = ⊥
 IsFileFault NoImage most header bytes image = IsSomeAnd header (λ h. IsNoImage h.guest image)
 IsFileFault OtherImage most header bytes image = IsSomeAnd header (λ h. IsWrongImage h.guest image)
 IsFileFault (BadImage why) most header bytes image = IsSomeAnd header (λ h. IsBadImage why h.guest image)
@@ -63,6 +67,8 @@ fault_text (SameHost letter) = codes "a second journal of host " ++ encode_utf8 
 fault_text SecondGuest = codes "a second guest"
 fault_text OtherHosts = codes "of another number of hosts"
 fault_text OtherWorld = codes "of another world"
+fault_text (OtherProcess letter) = codes "met another process of host " ++ encode_utf8 letter
+fault_text MetOtherWorld = codes "met a host of another world"
 fault_text NoImage = codes "the journal begins with a guest, so --image has to name its image"
 fault_text OtherImage = codes "the image is another one"
 fault_text (BadImage why) = refused_text why

@@ -1,17 +1,19 @@
 -- The host of a journal, and what it does again.
-use Rattle.std.specs.Prelude.{◌≡◌, ℕ, true, List, Option, Some, None, IfOk}
+use Rattle.std.specs.Prelude.{◌≡◌, ℕ, true, List, Option, Some, None, IfOk, slice_get}
+use Rattle.std.specs.Option.{option_and_then}
 use Rattle.sha2.specs.Sha256.{sha256}
 use Rattle.rvm_board.specs.Guest.{GuestState}
 use Rattle.rvm_guest.specs.Valid.{is_valid}
 use Rattle.rvm_command.specs.Command.{guest_of, image_of}
 use Rattle.rvm_command.specs.Ends.{IsLoadable}
-use Rattle.rvm_guest.specs.Valid.{is_valid}
 use Rattle.rvm_host.specs.Hosts.{new_host}
 use Rattle.rvm_recorder.specs.History.{Recording}
 use Rattle.rvm_journal.specs.declared.header.Header.{Header}
 use Rattle.rvm_journal.specs.declared.header.Image.{Image}
+use Rattle.rvm_journal.specs.Headers.{header_at}
 use Rattle.rvm_journal.specs.Replaying.{AreFirstTold, events_in}
 use Rattle.rvm_journal.specs.Told.{Told, told_in}
+use Rattle.rvm_replay.specs.declared.file.JournalFile.{JournalFile}
 
 -- this guest, or none, is the one that a header names, and that the file of its image has
 abbrev pub IsGuestNamed : Option Image → (file : List ℕ) → Option GuestState → Type 0
@@ -41,3 +43,7 @@ pub record HasDoneFirst (most : ℕ) (header : Header) (bytes image : List ℕ) 
 abbrev pub IsHostAfter : (most : Option ℕ) → Header → (bytes image : List ℕ) → Recording → Type 0
 IsHostAfter None header bytes image r = IsHostOf header bytes image r
 IsHostAfter (Some m) header bytes image r = HasDoneFirst m header bytes image r
+
+-- the header of the journal with this index, if there is such a journal, and it has one
+abbrev pub header_number : List JournalFile → (index : ℕ) → Option Header
+header_number files i = option_and_then (λ f. header_at f.bytes.items) (slice_get files i)

@@ -26,6 +26,10 @@ pub enum FileFault {
     OtherHosts,
     /// The header tells another number of the world than that of the journal whose host began with the guest.
     OtherWorld,
+    /// A line tells another process of the host with this letter than that host's journal.
+    OtherProcess(char),
+    /// A line tells of a host of another world than that of the journal whose host began with the guest.
+    MetOtherWorld,
     /// The journal begins with a guest, and the file of its image holds nothing, as where no file is named.
     NoImage,
     /// The journal begins with the guest of another image.
@@ -49,6 +53,8 @@ impl fmt::Display for FileFault {
             FileFault::SecondGuest => write!(f, "a second guest"),
             FileFault::OtherHosts => write!(f, "of another number of hosts"),
             FileFault::OtherWorld => write!(f, "of another world"),
+            FileFault::OtherProcess(letter) => { write!(f, "met another process of host {letter}") }
+            FileFault::MetOtherWorld => write!(f, "met a host of another world"),
             FileFault::NoImage => {
                 write!(
                     f,

@@ -2,12 +2,14 @@
 
 ghost use Rattle.std.specs.Prelude.{◌≡◌, ◌≤◌, ◌<◌, ℕ, List, IfErr, IfOk, OnOk, Some, length};
 ghost use Rattle.rvm_journal.specs.Headers.{IsRanged};
-ghost use Rattle.rvm_replay.specs.Audited.{AreOfWorld, HasHeaderOf, HaveHeadersOf, IsOnlyOne, header_number, is_wanted};
+ghost use Rattle.rvm_replay.specs.Audited.{AreOfWorld, HasHeaderOf, HaveHeadersOf, IsOnlyOne, is_wanted};
+ghost use Rattle.rvm_replay.specs.Journals.{header_number};
 ghost use Rattle.rvm_replay.specs.Unaudited.{IsHeaderFault, IsHeadersFault, IsSecond};
 ghost use Rattle.rvm_replay.specs.declared.file.JournalFile.{JournalFile};
 ghost use Rattle.rvm_replay.specs.declared.headers.Wanted.TheVariants.{WithGuest};
 
 use crate::file::{FileFault, JournalFile, JournalsFault};
+use crate::meetings::check_meetings;
 use rvm_journal::{Header, letter_of, read_header};
 
 /// Which journal is looked for.
@@ -21,7 +23,8 @@ pub(crate) enum Wanted {
 
 /// Checks that journals are those of hosts of one world: each has a header; no two are of one host; exactly one is of a
 /// host that began with a guest, and each other one tells as many hosts as that one, and the same number of the world, or
-/// 0. Returns the number of hosts.
+/// 0; and each host that one tells to have been met is of that world, and of the process that its own journal tells.
+/// Returns the number of hosts.
 pub(crate) fn hosts_of_world(files: &[JournalFile<'_>]) -> Result<u8, JournalsFault>
     ensures world { IfOk result (AreOfWorld files.now) }
     ensures range { IfOk result (λ hosts. (2 ≤ hosts) × (hosts ≤ 8)) }
@@ -33,6 +36,7 @@ pub(crate) fn hosts_of_world(files: &[JournalFile<'_>]) -> Result<u8, JournalsFa
     };
     let opening = header_number(files, first)?;
     check_headers(files, first, &opening)?;
+    check_meetings(files, first, &opening)?;
     Ok(opening.hosts)
 }
 

@@ -5,7 +5,7 @@
 //! `rvm_audit` for the order. It must not know files, sockets or workers.
 //!
 //! To be read in this order: `file`, `hosts`, `report`, `console_of_journal`, `replay_command`, `replay_session`;
-//! `headers`, `world`, `cuts`, `counts`, `summary`, `places`, `audit`.
+//! `headers`, `meetings`, `world`, `cuts`, `counts`, `summary`, `places`, `audit`.
 #![tactic(auto)]
 
 pub mod audit;
@@ -15,6 +15,7 @@ mod cuts;
 pub mod file;
 mod headers;
 mod hosts;
+mod meetings;
 mod places;
 pub mod replay_command;
 pub mod replay_session;

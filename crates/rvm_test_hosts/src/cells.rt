@@ -10,7 +10,7 @@ use rvm_host::{Host, ModeKind};
 use rvm_mem::{FlatMemory, PagedMemory, write_bytes};
 use rvm_message::{Command, HostReply};
 use rvm_precopy::Policy;
-use rvm_recorder::{EventLog, NoLog};
+use rvm_recorder::{EventLog, Meeting, NoLog};
 use rvm_refusal::LinkFault;
 use std::alloc::Global;
 use std::marker::Brand;
@@ -103,6 +103,17 @@ impl<'n> EventLog for Noted<'n> {
         self.notes.note_turns(turn, harts, count);
     }
 
+    fn met(&mut self, meeting: Meeting) {
+        self.notes.note(match meeting {
+            Meeting {
+                host: 1,
+                process: 7,
+                world: 9,
+            } => b'M',
+            _ => b'?',
+        });
+    }
+
     fn finish(&mut self) -> Result<(), LinkFault> {
         self.notes.note(b'E');
         Ok(())
@@ -131,6 +142,14 @@ fn play<L: Opening, R: Abort + Wait>(
         policy: Policy::default(),
     };
     let (begun, offer) = cell.obey(rt, alloc, &begin)?;
+    cell.met(
+        rt,
+        Meeting {
+            host: 1,
+            process: 7,
+            world: 9,
+        },
+    );
     assert!(rt; begun == HostReply::Begun(1));
     assert!(rt; offer.is_some_and(|offer| offer.get().to == 1));
     let (open, _none) = cell.came(rt, alloc, 1, &Frame::Accept { move_number: 1 })?;
@@ -140,7 +159,7 @@ fn play<L: Opening, R: Abort + Wait>(
     assert!(rt; aborted == HostReply::Aborted);
     assert!(rt; abort.is_some());
     assert!(rt; cell.slice(rt, 100, 100) == slice);
-    assert!(rt; notes.are(*b"\0\0\0TBFAT", 200));
+    assert!(rt; notes.are(*b"\0\0TBMFAT", 200));
     Ok(())
 }
 

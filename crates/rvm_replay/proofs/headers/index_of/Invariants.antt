@@ -1,4 +1,5 @@
-use Rattle.rvm_replay.specs.Audited.{IsOnly, header_number, is_wanted}
+use Rattle.rvm_replay.specs.Audited.{IsOnly, is_wanted}
+use Rattle.rvm_replay.specs.Journals.{header_number}
 use Rattle.rvm_replay.proofs.headers.index_of.Given as goal
 
 -- of the journals so far, the one that is wanted

@@ -1,6 +1,6 @@
 use Rattle.std.proofs.Common.{◌≡◌, drop}
-use Rattle.rvm_journal.specs.Headers.{long_after}
-use Rattle.rvm_journal.proofs.header.long_in.Given as goal
+use Rattle.rvm_journal.specs.Numbers.{long_after}
+use Rattle.rvm_journal.proofs.numbers.long_in.Given as goal
 
 -- the digits so far and those that are left spell what all do
 abbrev pub invariant-loop-digit : goal.invariant-loop-digit
