@@ -12,7 +12,7 @@ use rvm_journal::{Header, Image};
 use rvm_mem::write_bytes;
 use rvm_message::{Command, HostEvent};
 use rvm_paged::PagedRam;
-use rvm_recorder::Recorded;
+use rvm_recorder::{Meeting, Recorded};
 use rvm_replay::audit::{AuditText, audit_journals};
 use rvm_replay::file::JournalFile;
 use std::alloc::Global;
@@ -66,6 +66,12 @@ enum Case {
     OtherWorld,
     /// Host C tells the number of the world, as it may.
     SameWorld,
+    /// Each host tells the host after it to have been met, as it is.
+    Met,
+    /// Host A tells another process of host B to have been met.
+    OtherProcess,
+    /// Host C tells host A to have been met in another world.
+    MetOtherWorld,
     /// The image is another one.
     OtherImage,
 }
@@ -83,6 +89,13 @@ pub fn audit_files<R: AllocGlobal + Print>(rt: &R) -> Option<()> {
     audit(rt, "a guest at host B", Case::SecondGuest)?;
     audit(rt, "a world of four hosts at host C", Case::OtherHosts)?;
     audit(rt, "another world at host C", Case::OtherWorld)?;
+    audit(rt, "the hosts that were met", Case::Met)?;
+    audit(
+        rt,
+        "another process of host B at host A",
+        Case::OtherProcess,
+    )?;
+    audit(rt, "host A in another world at host C", Case::MetOtherWorld)?;
     audit(rt, "another image", Case::OtherImage)?;
     audit(rt, "a journal without a line", Case::Empty)?;
     for line in 1..11 {
@@ -116,9 +129,9 @@ fn audit_hosts<R: AllocGlobal + Print>(
         return None;
     };
     act(alloc, case, a, b, c)?;
-    let a = write_journal(alloc, &header_of(0, case), a.journal())?;
-    let b = write_journal(alloc, &header_of(1, case), b.journal())?;
-    let mut c = write_journal(alloc, &header_of(2, case), c.journal())?;
+    let a = write_journal(alloc, &header_of(0, case), met_by(0, case), a.journal())?;
+    let b = write_journal(alloc, &header_of(1, case), met_by(1, case), b.journal())?;
+    let mut c = write_journal(alloc, &header_of(2, case), met_by(2, case), c.journal())?;
     match case {
         Case::Cut => {
             cut(&mut c)?;
@@ -233,6 +246,22 @@ fn header_of(host: u8, case: Case) -> Header {
             None
         },
     }
+}
+
+/// The host that a host met in a case, if it tells one.
+fn met_by(host: u8, case: Case) -> Option<Meeting> {
+    let (met, process, world) = match case {
+        Case::Met if host == 2 => (0, 7, 12),
+        Case::Met => (host + 1, 7, 12),
+        Case::OtherProcess if host == 0 => (1, 8, 12),
+        Case::MetOtherWorld if host == 2 => (0, 7, 13),
+        _ => return None,
+    };
+    Some(Meeting {
+        host: met,
+        process,
+        world,
+    })
 }
 
 /// How many hosts the header of a host tells.

@@ -4,28 +4,39 @@ use rvm_board::BoardEvent;
 use rvm_journal::{Header, JournalWriter};
 use rvm_message::{Command, Exchange, ExchangeRef, HostEvent};
 use rvm_paged::PagedRam;
-use rvm_recorder::{EventLog, Item, ItemRef, Journal};
+use rvm_recorder::{EventLog, Item, ItemRef, Journal, Meeting};
 use std::alloc::Global;
 use std::io::Write;
 
-/// The bytes of the file of a journal. If memory runs out, it is written once more.
+/// The bytes of the file of a journal, with the host that was met first, if one was. If memory runs out, it is written
+/// once more.
 pub fn write_journal(
     alloc: Global,
     header: &Header,
+    met: Option<Meeting>,
     journal: &Journal<PagedRam>,
 ) -> Option<Vec<u8>> {
     for _ in 0..2 {
         let mut bytes = Vec::new(alloc);
-        if write_items(alloc, header, journal.items(), &mut bytes).is_some() {
+        if write_items(alloc, header, met, journal.items(), &mut bytes).is_some() {
             return Some(bytes);
         }
     }
     None
 }
 
-/// Writes the header and a line for each entry.
-fn write_items(alloc: Global, header: &Header, items: &[Item], bytes: &mut Vec<u8>) -> Option<()> {
+/// Writes the header, the line of the host that was met, if one was, and a line for each entry.
+fn write_items(
+    alloc: Global,
+    header: &Header,
+    met: Option<Meeting>,
+    items: &[Item],
+    bytes: &mut Vec<u8>,
+) -> Option<()> {
     let mut writer = JournalWriter::new(alloc, bytes, header).ok()?;
+    if let Some(meeting) = met {
+        writer.met(meeting);
+    }
     for item in items {
         write_item(&mut writer, item);
     }
