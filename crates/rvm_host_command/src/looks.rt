@@ -49,7 +49,7 @@ pub(crate) fn answer_further<L: Hosting, A: Access<L>, O: Write>(
 }
 
 /// Writes the control and status registers of a hart of the guest, or why they are not shown. The guest stays as it is.
-#[tactic(auto, using(crate::proofs::Looking::csrs_told, crate::proofs::Looking::csrs_refused, crate::proofs::Looking::guest_of_look))]
+#[tactic(auto, using(crate::proofs::Looking::csrs_refused, crate::proofs::Looking::guest_of_look))]
 fn answer_csrs<L: Hosting, A: Access<L>, O: Write>(
     access: &A,
     hart: u32,
