@@ -7,6 +7,7 @@ ghost use Rattle.rvm_command.specs.declared.refused.Refused.{Refused};
 ghost use Rattle.rvm_command.specs.Refusals.{refused};
 ghost use Rattle.rvm_command.specs.declared.run.Ended.{Ended};
 ghost use Rattle.rvm_refusal.specs.declared.refusal.Refusal.TheVariants.{OutOfMemory};
+ghost use Rattle.rvm_guest.specs.Pages.{count_of};
 ghost use Rattle.rvm_saved.specs.Saved.{IsSavedGuest};
 ghost use Rattle.rvm_command.specs.Command.{end_text, guest_of, image_of};
 ghost use Rattle.rvm_command.specs.Ends.{CanBegin, CanRun, CanRunSaved, IsFaultOf, IsFileRefusal, IsImageRunEnd, IsLoadable, IsRunEnd, IsSavedRunEnd, IsTraced, RunHasStatus, Writes, is_saved, run_status};
@@ -159,7 +160,7 @@ fn guest_status(ended: Ended) -> u8
 }
 
 /// Runs the guest of a file, which is a saved guest or an image. Returns how the run ended, or why it was refused.
-#[tactic(auto, using(crate::proofs::Saved::ended_saved, crate::proofs::Saved::ended_image, crate::proofs::Saved::begins_saved, crate::proofs::Saved::begins_image))]
+#[tactic(auto, using(crate::proofs::SavedRuns::ended_saved, crate::proofs::SavedRuns::ended_image, crate::proofs::SavedRuns::begins_saved, crate::proofs::SavedRuns::begins_image))]
 fn run_file<M: PagedMemory + Drop, O: Write, T: Write, R: Write>(
     alloc: Global,
     arguments: &RunArguments,
@@ -214,7 +215,7 @@ fn run_saved<M: PagedMemory + Drop, O: Write, T: Write, R: Write>(
 }
 
 /// Reads the saved guest and runs it, by symbols that are good. Returns how the run ended, or why it was refused.
-#[tactic(auto, using(crate::proofs::Saved::not_read))]
+#[tactic(auto, using(crate::proofs::SavedRuns::not_read))]
 fn run_checked_saved<M: PagedMemory + Drop, O: Write, T: Write, R: Write>(
     alloc: Global,
     arguments: &RunArguments,
@@ -240,7 +241,7 @@ fn run_checked_saved<M: PagedMemory + Drop, O: Write, T: Write, R: Write>(
 }
 
 /// Runs a guest that was read from a file. Returns how the run ended, or why it was refused.
-#[tactic(auto, using(crate::proofs::Saved::broken, crate::proofs::Saved::no_room))]
+#[tactic(auto, using(crate::proofs::SavedRuns::broken, crate::proofs::SavedRuns::no_room))]
 fn run_restored<M: PagedMemory, O: Write, T: Write, R: Write>(
     alloc: Global,
     guest: &mut Debugged<M>,
@@ -257,19 +258,21 @@ fn run_restored<M: PagedMemory, O: Write, T: Write, R: Write>(
         (O.contents output.old) (O.contents output.new) (T.contents files.old.trace) (T.contents files.new.trace)
         (R.contents files.old.report) (R.contents files.new.report) }
 {
-    let mut kept = keep_none(alloc, arguments, guest.memory().pages())?;
+    let mut kept = keep_none(alloc, arguments, guest)?;
     Ok(run_to_report(
         alloc, guest, arguments, input, symbols, &mut kept, output, files,
     )?)
 }
 
-/// What is kept of a run of a guest without an image, of this many pages, before its first turn. Refuses with
-/// `OutOfMemory`.
-#[tactic(auto, using(crate::proofs::Saved::counts_cover, crate::proofs::Covering::none_ran, crate::proofs::Covering::nothing_counted, crate::proofs::Covering::no_test))]
-fn keep_none(alloc: Global, arguments: &RunArguments, pages: u32) -> Result<Kept, Refused>
-    requires { pages ≤ 4096 }
+/// What is kept of a run of a guest that has no image, before its first turn. Refuses with `OutOfMemory`.
+#[tactic(auto, using(crate::proofs::SavedRuns::counts_cover, crate::proofs::Covering::none_ran, crate::proofs::Covering::nothing_counted, crate::proofs::Covering::no_test))]
+fn keep_none<M: Memory>(
+    alloc: Global,
+    arguments: &RunArguments,
+    guest: &Debugged<M>,
+) -> Result<Kept, Refused>
     ensures kept { IfOk result (λ k. is_counted arguments.now.report ≡ true
-        → Covers pages k.counts k.segments.items []) }
+        → Covers (count_of guest.now.guest) k.counts k.segments.items []) }
     ensures counts { IfOk result (λ k. AreRuns k.counts []) }
     ensures refused { IfErr result (λ r. r ≡ refused OutOfMemory) }
 {
@@ -279,13 +282,22 @@ fn keep_none(alloc: Global, arguments: &RunArguments, pages: u32) -> Result<Kept
             counts: Counts::none(alloc),
         });
     }
-    match Counts::new(alloc, PAGE_WORDS * pages) {
+    match Counts::new(alloc, PAGE_WORDS * page_count(guest)) {
         Ok(counts) => Ok(Kept {
             segments: Vec::new(alloc),
             counts,
         }),
         Err(_) => Err(Refused::from(Refusal::OutOfMemory)),
     }
+}
+
+/// The number of pages of a guest's RAM.
+#[tactic(auto, using(crate::proofs::SavedRuns::few_pages))]
+fn page_count<M: Memory>(guest: &Debugged<M>) -> u32
+    ensures count { result ≡ count_of guest.now.guest }
+    ensures few { result ≤ 4096 }
+{
+    guest.memory().len() / PAGE_SIZE
 }
 
 /// Checks the symbols, loads the guest and runs it. Returns how the run ended, or why it was refused.
@@ -336,7 +348,7 @@ fn run_checked<M: PagedMemory + Drop, O: Write, T: Write, R: Write>(
 }
 
 /// Runs a guest that was loaded. Returns how the run ended, or why it was refused.
-#[tactic(auto, using(crate::proofs::Saved::broken))]
+#[tactic(auto, using(crate::proofs::SavedRuns::broken))]
 fn run_loaded<M: PagedMemory, O: Write, T: Write, R: Write>(
     alloc: Global,
     guest: &mut Debugged<M>,

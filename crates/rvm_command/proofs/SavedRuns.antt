@@ -1,5 +1,5 @@
 -- How runs of saved guests begin and end.
-use Rattle.std.proofs.Common.{◌≡◌, ◌⊎◌, inl, inr, ℕ, ◌*◌, ◌≤◌, Bool, true, false, List, [], length, replicate, Option, Result, refl, sym, ap, subst, arith, ◌∙◌}
+use Rattle.std.proofs.Common.{◌≡◌, ◌⊎◌, inl, inr, ℕ, ◌*◌, ◌/◌, ◌^◌, ◌≤◌, Bool, true, false, List, [], length, replicate, Option, Result, refl, sym, ap, subst, arith, ◌∙◌}
 use Rattle.std.proofs.lemmas.List.{length-replicate}
 use Rattle.rvm_arguments.specs.declared.arguments.ReportArguments.{ReportArguments}
 use Rattle.rvm_arguments.specs.declared.arguments.RunArguments.{RunArguments}
@@ -59,10 +59,16 @@ pub broken : (report : Option ReportArguments) (f : SaveFault) (r : Refused) →
 broken report save.LinkFault r is why = inl is
 broken report save.OutOfMemory r is why = inr (is, why)
 
--- numbers of the words of a guest without an image
-pub counts_cover : (pages : ℕ) (counts : List ℕ) (segments : List Segment) → segments ≡ []
-    → counts ≡ replicate (1024 * pages) 0 → pages ≤ 4096 → Covers pages counts segments []
-counts_cover pages counts segments none zeros few =
-    let size : length counts ≡ 1024 * pages = ap length zeros ∙ length-replicate (1024 * pages) 0 in
-    subst (λ (s : List Segment). Covers pages counts s []) (sym none)
-    (record { listed = refl; size = size; few = omega (arith, size, few); inside = refl })
+-- RAM of at most 2^24 bytes has at most 4096 pages
+pub few_pages : (n : ℕ) → n ≤ 2 ^ 24 → n / 4096 ≤ 4096
+few_pages n few = omega (arith, few)
+
+-- numbers of the words of a guest that has no image
+pub counts_cover : (pages n : ℕ) (counts : List ℕ) (segments : List Segment) → segments ≡ [] → n ≡ pages
+    → counts ≡ replicate (1024 * n) 0 → n ≤ 4096 → Covers pages counts segments []
+counts_cover pages n counts segments none same zeros few =
+    let size : length counts ≡ 1024 * n = ap length zeros ∙ length-replicate (1024 * n) 0 in
+    subst (λ (k : ℕ). Covers k counts segments []) same (
+      subst (λ (s : List Segment). Covers n counts s []) (sym none)
+      (record { listed = refl; size = size; few = omega (arith, size, few); inside = refl })
+    )
