@@ -10,13 +10,13 @@ use Rattle.rvm_command.specs.declared.run.Ended.{Ended}
 use Rattle.rvm_command.specs.Ends.{CanBegin, CanBeginAs, CanRun, CanRunSaved, IsBroken, IsFaultOf, IsImageRunEnd, IsRunEnd, IsRunEndOf, IsSavedRefusal, IsSavedRunEnd, is_saved}
 use Rattle.rvm_command.specs.Refusals.{refused}
 use Rattle.rvm_refusal.specs.declared.refusal.Refusal.TheVariants.{OutOfMemory}
-use Rattle.rvm_saved.specs.declared.fault.RestoreFault.{RestoreFault}
-use Rattle.rvm_saved.specs.declared.fault.RestoreFault.TheVariants as restore
-use Rattle.rvm_saved.specs.declared.fault.SaveFault.{SaveFault}
-use Rattle.rvm_saved.specs.declared.fault.SaveFault.TheVariants as save
-use Rattle.rvm_saved.specs.Reading.{IsRefused}
-use Rattle.rvm_saved.specs.Refusals.{restore_refusal, save_refusal}
-use Rattle.rvm_saved.specs.Saved.{IsSavedGuest}
+use Rattle.rvm_command.specs.declared.saved_fault.RestoreFault.{RestoreFault}
+use Rattle.rvm_command.specs.declared.saved_fault.RestoreFault.TheVariants as restore
+use Rattle.rvm_command.specs.declared.saved_fault.SaveFault.{SaveFault}
+use Rattle.rvm_command.specs.declared.saved_fault.SaveFault.TheVariants as save
+use Rattle.rvm_command.specs.Restoring.{IsRefused}
+use Rattle.rvm_command.specs.SavedRefusals.{restore_refusal, save_refusal}
+use Rattle.rvm_command.specs.Saved.{IsSavedGuest}
 
 pub ended_saved : (a : RunArguments) (file input symbols : List ℕ) (r : Result Ended Refused)
     (before after trace_before trace_after report_before report_after : Option (List ℕ)) → is_saved a file ≡ true

@@ -9,7 +9,7 @@ use Rattle.rvm_board.specs.Guest.{Guest}
 use Rattle.rvm_board.specs.declared.event.BoardReply.{BoardReply}
 use Rattle.rvm_elf.specs.Load.{pieces_fit}
 use Rattle.rvm_hart.specs.Bus.{ram_base}
-use Rattle.rvm_saved.specs.Saved.{saved_bytes}
+use Rattle.rvm_command.specs.Saved.{saved_bytes}
 use Rattle.rvm_command.specs.Coverage.{counted_listing, has_run, runs_at}
 use Rattle.rvm_command.specs.Profile.{symbol_lines}
 use Rattle.rvm_command.specs.Reports.{signature}

@@ -17,12 +17,12 @@ use Rattle.rvm_debug.specs.declared.script.ScriptError.TheVariants as script
 use Rattle.rvm_debug.specs.Script.{Answers, script_of}
 use Rattle.rvm_debug.specs.Words.{lines}
 use Rattle.rvm_guest.specs.Pages.{count_of}
-use Rattle.rvm_saved.specs.declared.fault.RestoreFault.{RestoreFault}
-use Rattle.rvm_saved.specs.declared.fault.SaveFault.{SaveFault}
-use Rattle.rvm_saved.specs.declared.fault.SaveFault.TheVariants as save
-use Rattle.rvm_saved.specs.Reading.{IsRefused}
-use Rattle.rvm_saved.specs.Refusals.{restore_refusal}
-use Rattle.rvm_saved.specs.Saved.{IsSavedGuest, begins_saved}
+use Rattle.rvm_command.specs.declared.saved_fault.RestoreFault.{RestoreFault}
+use Rattle.rvm_command.specs.declared.saved_fault.SaveFault.{SaveFault}
+use Rattle.rvm_command.specs.declared.saved_fault.SaveFault.TheVariants as save
+use Rattle.rvm_command.specs.Restoring.{IsRefused}
+use Rattle.rvm_command.specs.SavedRefusals.{restore_refusal}
+use Rattle.rvm_command.specs.Saved.{IsSavedGuest, begins_saved}
 use Rattle.rvm_refusal.specs.declared.refusal.Refusal.TheVariants.{OutOfMemory, OutsideRam, BadToken, LinkFault}
 use Rattle.rvm_arguments.specs.declared.arguments.DebugArguments.{DebugArguments}
 use Rattle.rvm_arguments.specs.declared.arguments.Report.TheVariants.{SavedGuest}

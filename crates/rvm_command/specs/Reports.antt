@@ -7,7 +7,7 @@ use Rattle.rvm_arguments.specs.declared.arguments.WordRange.{WordRange}
 use Rattle.rvm_asm.specs.Images.{Piece}
 use Rattle.rvm_board.specs.Guest.{Guest}
 use Rattle.rvm_dis.specs.Pieces.{hex_digits}
-use Rattle.rvm_saved.specs.Saved.{saved_bytes}
+use Rattle.rvm_command.specs.Saved.{saved_bytes}
 use Rattle.rvm_command.specs.Coverage.{coverage}
 use Rattle.rvm_command.specs.Profile.{profile}
 use Rattle.rvm_command.specs.Watched.{Watched}

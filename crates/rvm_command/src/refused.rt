@@ -4,13 +4,13 @@ ghost use Rattle.std.specs.Prelude.{◌≡◌, IfOk};
 ghost use Rattle.rvm_refusal.specs.declared.refusal.Refusal.TheVariants as refusal;
 ghost use Rattle.rvm_command.specs.Refusals.{IsTold, refused, refused_of_script, refused_of_text};
 ghost use Rattle.rvm_elf.specs.Refusals.{refusal_of_file, refusal_of_image};
-ghost use Rattle.rvm_saved.specs.Refusals.{restore_refusal, save_refusal};
+ghost use Rattle.rvm_command.specs.SavedRefusals.{restore_refusal, save_refusal};
 
 use rvm_asm::AsmError;
 use rvm_debug::ScriptError;
 use rvm_elf::{ReadError, WriteError};
 use rvm_refusal::{LinkFault, Refusal};
-use rvm_saved::{RestoreFault, SaveFault};
+use crate::saved_fault::{RestoreFault, SaveFault};
 use std::fmt;
 use std::io::Write;
 

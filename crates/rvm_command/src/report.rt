@@ -11,7 +11,7 @@ ghost use Rattle.rvm_command.specs.Ends.{IsFaultOf, IsReported};
 ghost use Rattle.rvm_asm.specs.Images.{pieces_of};
 ghost use Rattle.rvm_command.specs.Counting.{is_listing, written_report, written_text};
 ghost use Rattle.rvm_command.specs.Reports.{signature, word_row};
-ghost use Rattle.rvm_saved.specs.Saved.{saved_bytes};
+ghost use Rattle.rvm_command.specs.Saved.{saved_bytes};
 
 use crate::coverage::{Counts, write_coverage};
 use crate::profile::write_profile;
@@ -22,7 +22,8 @@ use rvm_board::Debugged;
 use rvm_dis::Digits;
 use rvm_mem::{Memory, PagedMemory};
 use rvm_refusal::LinkFault;
-use rvm_saved::{SaveFault, save_guest};
+use crate::save::save_guest;
+use crate::saved_fault::SaveFault;
 use std::alloc::Global;
 use std::io::Write;
 

@@ -8,7 +8,7 @@ ghost use Rattle.rvm_command.specs.Refusals.{refused};
 ghost use Rattle.rvm_command.specs.declared.run.Ended.{Ended};
 ghost use Rattle.rvm_refusal.specs.declared.refusal.Refusal.TheVariants.{OutOfMemory};
 ghost use Rattle.rvm_guest.specs.Pages.{count_of};
-ghost use Rattle.rvm_saved.specs.Saved.{IsSavedGuest};
+ghost use Rattle.rvm_command.specs.Saved.{IsSavedGuest};
 ghost use Rattle.rvm_command.specs.Command.{end_text, guest_of, image_of};
 ghost use Rattle.rvm_command.specs.Ends.{CanBegin, CanRun, CanRunSaved, IsFaultOf, IsFileRefusal, IsImageRunEnd, IsLoadable, IsRunEnd, IsSavedRunEnd, IsTraced, RunHasStatus, Writes, is_saved, run_status};
 ghost use Rattle.rvm_asm.specs.Images.{Piece};
@@ -31,7 +31,8 @@ use rvm_arguments::{
 use rvm_board::Debugged;
 use rvm_mem::{Memory, PAGE_SIZE, PagedMemory};
 use rvm_refusal::{LinkFault, Refusal};
-use rvm_saved::{SaveFault, is_saved_guest, restore_guest};
+use crate::restore::{is_saved_guest, restore_guest};
+use crate::saved_fault::SaveFault;
 use std::alloc::Global;
 use std::io::Write;
 

@@ -3,6 +3,7 @@ mod LinesRead
 pub mod Answered
 mod Examples
 pub mod Told
+pub mod Looking
 pub mod Hosted
 pub mod Walks
 pub mod Law

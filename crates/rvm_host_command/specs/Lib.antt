@@ -1,5 +1,6 @@
 pub mod Hosted
 pub mod Told
+pub mod Looks
 pub mod Lines
 pub mod Answered
 pub mod Processes

@@ -8,8 +8,8 @@
 //! and the file of the host's own journal.
 //!
 //! To be read in this order: `fault`, `address`, `outbound`, `timed`, `door`, `process`, `meeting`, `peer`, `accepter`,
-//! `ticker`, `operators`, `answers`, `next_line`, `control`, `threads`, `turns`, `hosting`, `host_command`, `tell_command`;
-//! `laws`, which calls no code.
+//! `ticker`, `operators`, `answers`, `looks`, `next_line`, `control`, `threads`, `turns`, `hosting`, `host_command`,
+//! `tell_command`; `laws`, which calls no code.
 #![tactic(auto)]
 
 mod accepter;
@@ -21,6 +21,7 @@ pub mod fault;
 pub mod host_command;
 pub mod hosting;
 pub mod laws;
+mod looks;
 mod meeting;
 mod next_line;
 pub mod operators;

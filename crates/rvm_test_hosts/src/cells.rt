@@ -2,13 +2,13 @@
 
 ghost use Rattle.std.specs.Prelude.{◌≡◌};
 
-use rvm_board::{Board, Debugged};
+use rvm_board::{Board, Debugged, Snapshot};
 use rvm_cell::{HostCell, Opening, Slice, Then};
 use rvm_frame::Frame;
 use rvm_hart::RAM_BASE;
 use rvm_host::{Host, ModeKind};
 use rvm_mem::{FlatMemory, PagedMemory, write_bytes};
-use rvm_message::{Command, HostReply};
+use rvm_message::{Command, HostRefusal, HostReply};
 use rvm_precopy::Policy;
 use rvm_recorder::{EventLog, Meeting, NoLog};
 use rvm_refusal::LinkFault;
@@ -120,6 +120,14 @@ impl<'n> EventLog for Noted<'n> {
     }
 }
 
+/// What the timer of a guest says that was looked at, or why it was not shown.
+fn time_in(seen: Result<Snapshot, HostRefusal>) -> Result<u64, HostRefusal> {
+    match seen {
+        Ok(snapshot) => Ok(snapshot.devices.mtime),
+        Err(why) => Err(why),
+    }
+}
+
 /// Plays a move that begins and is given up, under the lock of a host that has a guest and is host 0 of two. Looks at
 /// what its log was told to keep.
 fn play<L: Opening, R: Abort + Wait>(
@@ -155,6 +163,7 @@ fn play<L: Opening, R: Abort + Wait>(
     let (open, _none) = cell.came(rt, alloc, 1, &Frame::Accept { move_number: 1 })?;
     assert!(rt; open == HostReply::Open);
     assert!(rt; cell.status(rt).kind == ModeKind::Copying);
+    assert!(rt; time_in(cell.snapshot(rt)) == Ok(100));
     let (aborted, abort) = cell.obey(rt, alloc, &Command::Abort)?;
     assert!(rt; aborted == HostReply::Aborted);
     assert!(rt; abort.is_some());
@@ -182,6 +191,7 @@ fn play_empty<L: Opening, R: Abort + Wait>(
     let cell: HostCell<L, FlatMemory, NoLog> = HostCell::new(host, NoLog);
     let slice = cell.slice(rt, 0, 100);
     assert!(rt; slice.made == 0 && slice.then == Then::Elsewhere);
+    assert!(rt; time_in(cell.snapshot(rt)) == Err(HostRefusal::NotHere));
     let offer = Frame::Offer {
         move_number: 1,
         pages: 1,
