@@ -7,11 +7,10 @@
 //! worlds and their scripts, on `rvm_host` for guests that are read from a stream, and on `rvm_arguments`. It must not know
 //! files, processes or the terminal.
 //!
-//! To be read in this order: `guest`, `refused`, `flush`, `output_buffer`, `fault`, `run`, `trace`, `latest_traps`,
-//! `coverage`, `symbols`, `profile`, `order`, `watched`, `report`, `run_command`, `orders_command`, `asm_command`,
-//! `dis_command`; `extended_command`, `extended_line`, `find_fault`, `extended_answers`, `extended_lines`,
-//! `extended_script`, `debug_command`; `script_refused`, `first_world`, `script_command`; `saved_fault`, `save`,
-//! `restore`; `laws`.
+//! To be read in this order: `saved_fault`, `save`, `restore`; `guest`, `refused`, `flush`, `output_buffer`, `fault`, `run`,
+//! `trace`, `latest_traps`, `coverage`, `symbols`, `profile`, `order`, `watched`, `report`, `run_command`, `orders_command`,
+//! `asm_command`, `dis_command`; `extended_command`, `extended_line`, `find_fault`, `extended_answers`, `extended_lines`,
+//! `extended_script`, `debug_command`; `script_refused`, `first_world`, `script_command`; `laws`.
 #![tactic(auto)]
 
 pub mod asm_command;
