@@ -105,7 +105,7 @@ fn write_listing<M: Memory, W: Write>(
     kept: &Kept,
     writer: &mut W,
 ) -> Result<(), LinkFault>
-    requires { is_listing report.entry ≡ true }
+    requires { is_listing report ≡ true }
     ensures text { OnOk result (Appends (W.contents writer.old) (W.contents writer.new)
         (written_report report.entry (pieces_of kept.now.segments.items) symbols.now kept.now.counts guest.old.guest)) }
     ensures guest { guest.new ≡ guest.old }
@@ -122,7 +122,7 @@ fn write_reported<M: Memory, W: Write>(
     kept: &Kept,
     writer: &mut W,
 ) -> Result<(), LinkFault>
-    requires { is_listing report.entry ≡ true }
+    requires { is_listing report ≡ true }
     ensures text { OnOk result (Appends (W.contents writer.old) (W.contents writer.new)
         (written_report report.entry (pieces_of kept.now.segments.items) symbols.now kept.now.counts guest.old.guest)) }
     ensures guest { guest.new ≡ guest.old }

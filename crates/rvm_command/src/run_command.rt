@@ -266,7 +266,7 @@ fn run_restored<M: PagedMemory, O: Write, T: Write, R: Write>(
 }
 
 /// What is kept of a run of a guest that has no image, before its first turn. Refuses with `OutOfMemory`.
-#[tactic(auto, using(crate::proofs::SavedRuns::counts_cover, crate::proofs::Covering::none_ran, crate::proofs::Covering::nothing_counted, crate::proofs::Covering::no_test))]
+#[tactic(auto, using(crate::proofs::Covering::nothing_counted, crate::proofs::Covering::no_test))]
 fn keep_none<M: Memory>(
     alloc: Global,
     arguments: &RunArguments,
@@ -283,7 +283,18 @@ fn keep_none<M: Memory>(
             counts: Counts::none(alloc),
         });
     }
-    match Counts::new(alloc, PAGE_WORDS * page_count(guest)) {
+    keep_counts(alloc, guest)
+}
+
+/// A number for each word of RAM, and no segment. Refuses with `OutOfMemory`.
+#[tactic(auto, using(crate::proofs::SavedRuns::counts_cover, crate::proofs::Covering::none_ran))]
+fn keep_counts<M: Memory>(alloc: Global, guest: &Debugged<M>) -> Result<Kept, Refused>
+    ensures kept { IfOk result (λ k. Covers (count_of guest.now.guest) k.counts k.segments.items []) }
+    ensures counts { IfOk result (λ k. AreRuns k.counts []) }
+    ensures refused { IfErr result (λ r. r ≡ refused OutOfMemory) }
+{
+    let pages = page_count(guest);
+    match Counts::new(alloc, PAGE_WORDS * pages) {
         Ok(counts) => Ok(Kept {
             segments: Vec::new(alloc),
             counts,
