@@ -30,11 +30,12 @@ use Rattle.rvm_recorder.specs.Entries.{PlainEntry}
 use Rattle.rvm_recorder.specs.History.{Recording, count_of, with_entries}
 use Rattle.rvm_recorder.specs.Slices.{AreTurnsRecorded}
 use Rattle.rvm_journal.specs.declared.noted.Noted.{Noted}
-use Rattle.rvm_journal.specs.declared.noted.Noted.TheVariants.{Turns, Command as Commanded, Came, End}
+use Rattle.rvm_journal.specs.declared.noted.Noted.TheVariants.{Turns, Command as Commanded, Came, Met, End}
 use Rattle.rvm_journal.specs.declared.replay.JournalFault.{JournalFault}
 use Rattle.rvm_journal.specs.declared.replay.JournalFault.TheVariants as fault
 use Rattle.rvm_journal.specs.Headers.{first_header, header_at, header_in_line}
-use Rattle.rvm_journal.specs.Noting.{bytes_noted, came_noted, command_in, end_noted, events_of, frame_noted, noted_by, noted_of, run_if, turns_noted}
+use Rattle.rvm_recorder.specs.declared.log.Meeting.{Meeting}
+use Rattle.rvm_journal.specs.Noting.{bytes_noted, came_noted, command_in, end_noted, events_of, frame_noted, meeting_in, noted_by, noted_of, run_if, turns_noted}
 use Rattle.rvm_journal.specs.Replaying.{AreFewer, HasHarts, HasMore, IsFull, IsJournalFault, IsLineFault, IsReplayedTo, IsRoomFault, IsSpent, IsWanted, LacksHeader, LacksRoom, Records, events_in, first_of, left_of, noted_at, room_of}
 use Rattle.rvm_journal.specs.Told.{Told, at_header, digest_after, digest_behind, header_told, mark, no_digest, text_in, told_by, told_in, told_of}
 use Rattle.rvm_journal.proofs.Adding.{behind_header, one_told}
@@ -102,6 +103,10 @@ harts_of_came h [] noted e = cc
 harts_of_came h (w ∷ []) noted e = harts_of_bytes h (decode_of w) noted e
 harts_of_came h (w ∷ v ∷ ws) noted e = cc
 
+harts_of_meeting : (o : Option Meeting) (noted : Noted) → option_map Met o ≡ Some noted → HasHarts noted
+harts_of_meeting None noted e = cc
+harts_of_meeting (Some m) noted e = subst HasHarts (same_Some (Met m) noted e) tt
+
 harts_of_end : (ws : List (List ℕ)) (noted : Noted) → end_noted ws ≡ Some noted → HasHarts noted
 harts_of_end [] noted e = subst HasHarts (same_Some End noted e) tt
 harts_of_end (w ∷ ws) noted e = cc
@@ -116,11 +121,13 @@ harts_of_words n h text [] noted e = cc
 harts_of_words n h text (w ∷ ws) noted e =
     let command : Option Noted = option_map Commanded (command_in h (world_line_of n text)) in
     let ended : Option Noted = cond (bytes_eq w (codes "end")) (end_noted ws) command in
-    let came : Option Noted = cond (bytes_eq w (codes "came")) (came_noted h ws) ended in
+    let met : Option Noted = cond (bytes_eq w (codes "met")) (option_map Met (meeting_in (w ∷ ws))) ended in
+    let came : Option Noted = cond (bytes_eq w (codes "came")) (came_noted h ws) met in
     harts_of_either (bytes_eq w (codes "turns")) (turns_noted ws) came noted (harts_of_turns ws noted)
-    (harts_of_either (bytes_eq w (codes "came")) (came_noted h ws) ended noted (harts_of_came h ws noted)
+    (harts_of_either (bytes_eq w (codes "came")) (came_noted h ws) met noted (harts_of_came h ws noted)
+    (harts_of_either (bytes_eq w (codes "met")) (option_map Met (meeting_in (w ∷ ws))) ended noted (harts_of_meeting (meeting_in (w ∷ ws)) noted)
     (harts_of_either (bytes_eq w (codes "end")) (end_noted ws) command noted (harts_of_end ws noted)
-    (harts_of_command (command_in h (world_line_of n text)) noted))) e
+    (harts_of_command (command_in h (world_line_of n text)) noted)))) e
 
 pub harts_of_noted : (n h : ℕ) (text : List ℕ) (noted : Noted) → noted_of n h text ≡ Some noted → HasHarts noted
 unfolding noted_of
