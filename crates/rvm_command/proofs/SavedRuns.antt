@@ -5,6 +5,7 @@ use Rattle.rvm_arguments.specs.declared.arguments.ReportArguments.{ReportArgumen
 use Rattle.rvm_arguments.specs.declared.arguments.RunArguments.{RunArguments}
 use Rattle.rvm_asm.specs.declared.image.Segment.{Segment}
 use Rattle.rvm_command.specs.Counting.{Covers}
+use Rattle.rvm_elf.specs.Load.{pieces_fit}
 use Rattle.rvm_command.specs.declared.refused.Refused.{Refused}
 use Rattle.rvm_command.specs.declared.run.Ended.{Ended}
 use Rattle.rvm_command.specs.Ends.{CanBegin, CanBeginAs, CanRun, CanRunSaved, IsBroken, IsFaultOf, IsImageRunEnd, IsRunEnd, IsRunEndOf, IsSavedRefusal, IsSavedRunEnd, is_saved}
@@ -66,6 +67,7 @@ few_pages n few = omega (arith, few)
 -- numbers of the words of a guest that has no image
 pub counts_cover : (pages n : ℕ) (counts : List ℕ) (segments : List Segment) → segments ≡ [] → n ≡ pages
     → counts ≡ replicate (1024 * n) 0 → n ≤ 4096 → Covers pages counts segments []
+unfolding pieces_fit
 counts_cover pages n counts segments none same zeros few =
     let size : length counts ≡ 1024 * n = ap length zeros ∙ length-replicate (1024 * n) 0 in
     subst (λ (k : ℕ). Covers k counts segments []) same (
