@@ -29,3 +29,4 @@ pub mod ExtendedAnswers
 pub mod ExtendedScript
 pub mod ExtendedRuns
 pub mod TraceLaw
+pub mod RunsJoined
