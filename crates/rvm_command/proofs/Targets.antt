@@ -1,6 +1,7 @@
 -- A host that reads a saved guest, frame by frame.
-use Rattle.std.proofs.Common.{◌≡◌, inl, inr, ℕ, ◌<◌, ◌≤◌, ◌++◌, List, [], length, take, drop, Bool, true, false, if◌then◌else◌, Option, Some, None, Result, Ok, Err, IfErr, IfOk, OnOk, refl, sym, ap, ◌∙◌, subst, arith}
-use Rattle.std.proofs.lemmas.List.{take_all}
+use Rattle.std.proofs.Common.{◌≡◌, inl, inr, ℕ, ◌-◌, ◌==◌, ◌<◌, ◌≤◌, ◌++◌, List, [], ◌∷◌, length, take, drop, Bool, true, false, if◌then◌else◌, Option, Some, None, Result, Ok, Err, IfErr, IfOk, OnOk, refl, sym, ap, ◌∙◌, subst, arith}
+use Rattle.std.proofs.lemmas.Bool.{false≢true, ne_eqb}
+use Rattle.std.proofs.lemmas.List.{length-drop, take_all}
 use Rattle.rvm_board.specs.Guest.{Guest, GuestState}
 use Rattle.rvm_frame.specs.declared.addressed.Addressed.{Addressed}
 use Rattle.rvm_frame.specs.declared.fault.FrameFault.{FrameFault}
@@ -93,7 +94,8 @@ is_refused reader left h fault.TooLong clean e =
     inr (λ g r. refused after_received guest_running reader.version left e.1.0 read.TooLong h g
     (subst (λ b. Decides reader.version b left e.1.0 (Err read.TooLong)) bytes e.1.1) r)
 is_refused reader left h fault.Failed clean e =
-    let open : reader.failed ≡ false = ap (λ (r : Gathered). r.failed) clean in absurd (cc)
+    let unfailed : reader.failed ≡ false = ap (λ (r : Gathered). r.failed) clean in
+    absurd (false≢true (sym unfailed ∙ e))
 
 -- the bytes end inside a frame
 pub is_cut : (reader : Gathered) (left : List ℕ) (n : ℕ) (h : BoardHost) → reader ≡ between reader.version
@@ -200,3 +202,11 @@ started_between r is = is ∙ ap (λ (x : Gathered). between x.version) (sym is)
 pub started_left : (bytes : List ℕ) (r : Gathered) (h : BoardHost) → r ≡ at_start → h ≡ waiting
     → IsLeft bytes r.version bytes h
 started_left bytes r h is waits = subst (λ (x : Gathered). IsLeft bytes x.version bytes h) (sym is) (all_left bytes h waits)
+
+-- slices of the bytes that are left
+pub rest_is : (n : ℕ) (xs : List ℕ) → take (length xs - n) (drop n xs) ≡ drop n xs
+rest_is n xs = take_all (length xs - n) (drop n xs) (let z = length-drop n xs in omega (arith, z))
+
+pub none_is : (xs : List ℕ) → true ≡ (length xs == 0) → xs ≡ []
+none_is [] e = refl
+none_is (x ∷ xs) e = absurd (false≢true (sym (ne_eqb (length (x ∷ xs)) 0 (λ q. omega (arith, q))) ∙ sym e))

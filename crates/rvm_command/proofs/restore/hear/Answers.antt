@@ -1,6 +1,8 @@
-use Rattle.std.proofs.Common.{◌≡◌, ◌++◌, take, Ok, Some, None}
+use Rattle.std.proofs.Common.{subst, sym}
 use Rattle.rvm_host.specs.Hosts.{host_of}
 use Rattle.rvm_command.proofs.Targets.{is_cut, is_heard, is_refused, not_heard}
+use Rattle.rvm_command.specs.Restoring.{IsRefused}
+use Rattle.rvm_command.specs.Saved.{Restores}
 use Rattle.rvm_command.proofs.restore.hear.Goals as goal
 
 pub returns-in-Ok-default-Some-clause-heard : goal.returns-in-Ok-default-Some-clause-heard
@@ -22,5 +24,6 @@ returns-in-Ok-default-None-clause-refused g c =
 
 pub returns-in-Err-clause-refused : goal.returns-in-Err-clause-refused
 returns-in-Err-clause-refused g c =
-    is_refused c.args.reader.now c.args.left.now (host_of c.args.host.now) c.in-Err.fault c.requires.between
-    c.in-Err.ensures.refused
+    subst (IsRefused (Restores c.args.reader.now.version c.args.left.now (host_of c.args.host.now))) (sym c.fault_of.ensures)
+    (is_refused c.args.reader.now c.args.left.now (host_of c.args.host.now) c.in-Err.fault c.requires.between
+    c.in-Err.ensures.refused)
