@@ -287,7 +287,7 @@ fn keep_none<M: Memory>(
 }
 
 /// A number for each word of RAM, and no segment. Refuses with `OutOfMemory`.
-#[tactic(auto, using(crate::proofs::SavedRuns::counts_cover, crate::proofs::Covering::none_ran))]
+#[tactic(auto, using(crate::proofs::Covering::none_ran))]
 fn keep_counts<M: Memory>(alloc: Global, guest: &Debugged<M>) -> Result<Kept, Refused>
     ensures kept { IfOk result (λ k. Covers (count_of guest.now.guest) k.counts k.segments.items []) }
     ensures counts { IfOk result (λ k. AreRuns k.counts []) }
