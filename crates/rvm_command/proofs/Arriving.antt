@@ -1,15 +1,15 @@
 -- The frames that a move sends of a guest lead a host that waits to run this guest.
-use Rattle.std.proofs.Common.{◌≡◌, ◌≢◌, ◌⊎◌, inl, inr, ℕ, zero, suc, ◌+◌, ◌<◌, ◌≤◌, ◌==◌, nat_lt, ◌&&◌, Bool, true, false, if◌then◌else◌, List, [], ◌∷◌, ◌++◌, length, get_or, set, Option, Some, None, refl, sym, ap, ◌∙◌, subst, arith, ext_get_or}
+use Rattle.std.proofs.Common.{◌≡◌, ◌≢◌, ◌⊎◌, inl, inr, ℕ, zero, suc, ◌+◌, ◌<◌, ◌≤◌, ◌==◌, nat_lt, ◌&&◌, Bool, true, false, if◌then◌else◌, List, [], ◌∷◌, ◌++◌, length, get_or, set, Some, refl, sym, ap, ◌∙◌, subst, arith, ext_get_or}
 use Rattle.std.proofs.lemmas.Bool.{eq-eqb, lt-ltb, le-ltb, ne_eqb}
 use Rattle.std.proofs.lemmas.List.{length-set, length-replicate, get_or-set_same, get_or-set_other}
 use Rattle.rvm_protocol.specs.Commands.{Came}
-use Rattle.rvm_protocol.specs.Frames.{Frame, Offer, Accept, Refuse, Page, RoundEnd, State, Ready, Go, Started, plain}
+use Rattle.rvm_protocol.specs.Frames.{Frame, Offer, Accept, Refuse, RoundEnd, State, Ready, Go, plain}
 use Rattle.rvm_protocol.specs.Guest.{Guest, IsGuest}
 use Rattle.rvm_protocol.specs.Host.{Host, settled}
-use Rattle.rvm_protocol.specs.Modes.{Mode, Empty, Run, Staging, Held, Outcome, says, sends, ignores}
+use Rattle.rvm_protocol.specs.Modes.{Mode, Empty, Run, Staging, Held, Outcome, says, sends}
 use Rattle.rvm_protocol.specs.Pages.{listed, put, size}
-use Rattle.rvm_protocol.specs.Receiving.{came, of_this_move, page_came, state_came, state_compared, guest_read}
-use Rattle.rvm_protocol.specs.Replies.{Accepted, Declined, Stored, Noted, ReadySent, StartedHere}
+use Rattle.rvm_protocol.specs.Receiving.{came, state_compared, guest_read}
+use Rattle.rvm_protocol.specs.Replies.{Accepted, Declined, Stored, ReadySent}
 use Rattle.rvm_protocol.specs.Rounds.{page_of}
 use Rattle.rvm_protocol.specs.Staging.{Stage, new_stage, with_page, lacks}
 use Rattle.rvm_command.specs.SentFrames.{after_frame, after_frames, frames_sent, page_sent, waiting}

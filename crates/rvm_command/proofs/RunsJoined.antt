@@ -1,5 +1,5 @@
 -- Turns that are broken off after a multiple of 64 and of the number of harts go on as if they had not been.
-use Rattle.std.proofs.Common.{◌≡◌, ◌∙◌, ◌⊎◌, inl, inr, ℕ, zero, suc, ◌+◌, ◌-◌, ◌*◌, ◌/◌, ◌%◌, ◌==◌, ◌<◌, ◌≤◌, Bool, true, false, if◌then◌else◌, List, [], ◌∷◌, ◌++◌, length, drop, replicate, Option, None, refl, sym, ap, subst, arith, append_assoc}
+use Rattle.std.proofs.Common.{◌≡◌, ◌∙◌, inl, inr, ℕ, zero, suc, ◌+◌, ◌-◌, ◌*◌, ◌/◌, ◌%◌, ◌==◌, ◌≤◌, if◌then◌else◌, List, [], ◌∷◌, ◌++◌, length, None, refl, sym, ap, subst, arith, append_assoc}
 use Rattle.std.proofs.lemmas.Bool.{cases_lt}
 use Rattle.std.proofs.lemmas.List.{length-drop}
 use Rattle.std.proofs.Math.Nat.{mod-add-div, add-mul-mod_self_left}
@@ -12,9 +12,9 @@ use Rattle.rvm_board.specs.Events.{Answered, answered}
 use Rattle.rvm_guest.proofs.TheGuest.{board_laws}
 use Rattle.rvm_guest.specs.TheGuest.{board}
 use Rattle.rvm_command.specs.declared.run.Ended.TheVariants.{StepsSpent}
-use Rattle.rvm_command.specs.Run.{After, Ran, Run, after, drains, first, ran, run_by, step_of, unless_halted}
+use Rattle.rvm_command.specs.Run.{After, Ran, Run, after, drains, first, run_by, step_of, unless_halted}
 use Rattle.rvm_command.specs.RunsJoined.{RunsJoin}
-use Rattle.rvm_command.proofs.Runs.{after_both, drains_more, drains_none, joined}
+use Rattle.rvm_command.proofs.Runs.{after_both, drains_more, drains_none}
 
 -- ---- as many harts
 

@@ -1,5 +1,5 @@
 -- The bytes that are written for a guest are a saved guest.
-use Rattle.std.proofs.Common.{◌≡◌, ℕ, zero, suc, ◌+◌, ◌*◌, ◌/◌, ◌<◌, ◌≤◌, ◌&&◌, nat_lt, Bool, true, false, if◌then◌else◌, List, [], ◌∷◌, ◌++◌, length, map, get_or, Option, Some, None, refl, sym, ap, ◌∙◌, subst, arith}
+use Rattle.std.proofs.Common.{◌≡◌, ℕ, zero, suc, ◌+◌, ◌*◌, ◌<◌, ◌≤◌, ◌&&◌, nat_lt, Bool, true, if◌then◌else◌, List, [], ◌∷◌, ◌++◌, length, map, Option, Some, refl, sym, ap, ◌∙◌, subst, arith}
 use Rattle.std.proofs.lemmas.Bool.{lt-ltb}
 use Rattle.rvm_board.specs.Guest.{Guest}
 use Rattle.rvm_frame.specs.declared.frame.Frame.{Frame}
@@ -9,7 +9,7 @@ use Rattle.rvm_guest.proofs.Bodies.{body_is}
 use Rattle.rvm_guest.proofs.Joined.{length_pages, page_at}
 use Rattle.rvm_guest.proofs.TheGuest.{board_laws}
 use Rattle.rvm_guest.specs.Body.{body_of}
-use Rattle.rvm_guest.specs.Pages.{count_of, pages_of, zeros}
+use Rattle.rvm_guest.specs.Pages.{count_of, zeros}
 use Rattle.rvm_guest.specs.TheGuest.{board}
 use Rattle.rvm_guest.specs.Valid.{is_valid}
 use Rattle.rvm_mem.specs.Pages as mem

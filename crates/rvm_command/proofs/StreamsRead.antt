@@ -3,14 +3,14 @@ use Rattle.std.proofs.Common.{◌≡◌, ℕ, zero, suc, ◌<◌, ◌≤◌, Lis
 use Rattle.std.proofs.lemmas.Bool.{cases_lt}
 use Rattle.std.proofs.lemmas.List.{take-append-drop}
 use Rattle.rvm_frame.specs.declared.fault.ReadFault.{ReadFault}
-use Rattle.rvm_frame.specs.Grammar.{HasSpelling, MayStand, Received, spelling}
+use Rattle.rvm_frame.specs.Grammar.{Received, spelling}
 use Rattle.rvm_frame.specs.Kinds.{version_after}
 use Rattle.rvm_frame.specs.Reader.{Gathered}
 use Rattle.rvm_frame.specs.Stream.{Splits}
 use Rattle.rvm_frame.specs.Verdict.{Decides, Verdict, verdict}
 use Rattle.rvm_frame.proofs.Streams.{one_reading}
 use Rattle.rvm_frame.proofs.Verdicts.{no_prefix_at, nothing_begins, verdict_again, whole_or_past}
-use Rattle.rvm_command.specs.Streams.{GoesOn, Hears, Reads, after_all, between}
+use Rattle.rvm_command.specs.Streams.{GoesOn, Hears, Reads, after_all}
 
 take_front : (n : ℕ) (xs ys : List ℕ) → n ≤ length xs → take n (xs ++ ys) ++ drop n xs ≡ xs
 take_front zero xs ys le = refl

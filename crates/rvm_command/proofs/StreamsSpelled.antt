@@ -1,8 +1,8 @@
 -- The bytes of frames are a stream of these frames.
-use Rattle.std.proofs.Common.{◌≡◌, ℕ, zero, suc, true, List, [], ◌∷◌, ◌++◌, map, Option, Some, None, refl, sym, subst}
+use Rattle.std.proofs.Common.{◌≡◌, ℕ, zero, suc, true, List, [], ◌∷◌, ◌++◌, map, Some, None, refl, sym, subst}
 use Rattle.rvm_frame.specs.declared.frame.Frame.{Frame}
 use Rattle.rvm_frame.specs.declared.frame.Frame.TheVariants as frame
-use Rattle.rvm_frame.specs.Grammar.{HasSpelling, Received}
+use Rattle.rvm_frame.specs.Grammar.{Received}
 use Rattle.rvm_frame.specs.Kinds.{kind_of, stands, version_after}
 use Rattle.rvm_frame.specs.Stream.{Splits}
 use Rattle.rvm_protocol.specs.Pages.{listed}

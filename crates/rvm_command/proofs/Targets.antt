@@ -8,8 +8,7 @@ use Rattle.rvm_frame.specs.declared.fault.FrameFault.{FrameFault}
 use Rattle.rvm_frame.specs.declared.fault.FrameFault.TheVariants as fault
 use Rattle.rvm_frame.specs.declared.fault.ReadFault.TheVariants as read
 use Rattle.rvm_frame.specs.Grammar.{Received, Spells}
-use Rattle.rvm_frame.specs.Kinds.{version_after}
-use Rattle.rvm_frame.specs.Reader.{Faults, Gathered, Refuses, at_start, next_of}
+use Rattle.rvm_frame.specs.Reader.{Faults, Gathered, at_start, next_of}
 use Rattle.rvm_frame.specs.Verdict.{Decides, verdict}
 use Rattle.rvm_guest.specs.TheGuest.{board}
 use Rattle.rvm_host.specs.Hosts.{PlainHost, Steps, host_of, new_host, step_of}

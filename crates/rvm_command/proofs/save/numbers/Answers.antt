@@ -1,4 +1,4 @@
-use Rattle.std.proofs.Common.{arith, suc, ◌∙◌}
+use Rattle.std.proofs.Common.{arith, ◌∙◌}
 use Rattle.rvm_command.proofs.FramesPut.{numbers_count, numbers_more, numbers_none}
 use Rattle.rvm_command.proofs.save.numbers.Goals as goal
 
