@@ -269,6 +269,4 @@ pub struct AuditJournalsArguments<'a> {
     pub image: &'a str,
     /// Whether the order is written, a line for each event, in place of a summary.
     pub order: bool,
-    /// The SVG file that gets a chart of the order, if one is drawn.
-    pub chart: Option<&'a str>,
 }

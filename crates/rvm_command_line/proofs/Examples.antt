@@ -95,7 +95,3 @@ an_audit_has_all_its_journals = refl
 pub an_audit_has_its_image : value audit_words (codes "image") ≡ Some (Some (codes "c"))
 unfolding walked
 an_audit_has_its_image = refl
-
-pub an_audit_has_its_chart : value (codes "rvmove" ∷ codes "audit-journals" ∷ codes "a" ∷ codes "--image" ∷ codes "c" ∷ codes "--chart" ∷ codes "d" ∷ []) (codes "chart") ≡ Some (Some (codes "d"))
-unfolding walked
-an_audit_has_its_chart = refl

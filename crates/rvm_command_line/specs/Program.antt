@@ -195,17 +195,14 @@ replay =
 abbrev pub several : Text → Rule
 several id = record (needed id) { range = Some (record { start_inclusive = 1; end_inclusive = usize_max }) }
 
--- a command that takes the words that say what is written of an order, and to which file it is drawn
-abbrev pub with_drawing : App → App
-with_drawing command = with_rule (with_rule command (flag (codes "order"))) (option (codes "chart"))
-
 -- the command that looks for one order of what the journals of a world's hosts tell
 abbrev pub audit_journals : App
 audit_journals =
-    with_drawing
+    with_rule
     (with_rule
     (with_rule (new_app (codes "audit-journals")) (several (codes "journal")))
     (needed_option (codes "image")))
+    (flag (codes "order"))
 
 -- the program without its commands, which demands that one is named
 abbrev pub top : App

@@ -6,7 +6,7 @@ ghost use Rattle.clap.specs.Walk.{Rule, rule_of};
 ghost use Rattle.clap.specs.Words.{kind_of};
 ghost use Rattle.clap.specs.declared.error.kind.ErrorKind.TheVariants as kind;
 ghost use Rattle.rvm_command_line.specs.Made.{IsMade};
-ghost use Rattle.rvm_command_line.specs.Program.{allowed, asm, audit, audit_journals, bounded, debug, dis, flag, host, move, needed, needed_option, number, option, program, replay, run, script, several, signature, tell, top, with_addresses, with_board, with_command, with_default, with_drawing, with_explain, with_guest, with_hosting, with_journal, with_move, with_name, with_order, with_policy, with_profile, with_replay, with_report, with_status, with_trace, with_turns, with_verdict, with_watch, with_world};
+ghost use Rattle.rvm_command_line.specs.Program.{allowed, asm, audit, audit_journals, bounded, debug, dis, flag, host, move, needed, needed_option, number, option, program, replay, run, script, several, signature, tell, top, with_addresses, with_board, with_command, with_default, with_explain, with_guest, with_hosting, with_journal, with_move, with_name, with_order, with_policy, with_profile, with_replay, with_report, with_status, with_trace, with_turns, with_verdict, with_watch, with_world};
 
 use clap::builder::ValueParser;
 use clap::{Arg, ArgAction, Command, Error};
@@ -161,14 +161,13 @@ standard input.";
 
 /// The text below the help of `audit-journals`.
 const AUDIT_JOURNALS_HELP: &str = "\
-Example: rvmove audit-journals a.journal b.journal --image hello.elf --chart order.svg
+Example: rvmove audit-journals a.journal b.journal --image hello.elf
 
 Each JOURNAL is what `rvmove host --journal` wrote, 1 to 8 of them, each of another host of one world. A host
 whose journal is not given has done nothing. The hosts are made anew and do again what their journals tell;
 then one order of all events is looked for, in which each frame that came had been sent before.
 Standard output has a line for each host and one for all; with --order it has the events in that order, as a
-script that `rvmove script` takes. With --chart the order is drawn too: where the guest ran, and its moves, by
-the turns that it had made. FILE is written if there is an order, and only then.
+script that `rvmove script` takes.
 
 The status is 0 if there is such an order, 1 if there is none or if a journal is refused, 2 for a fault of the
 command line, and 3 if there is none and the reason may be that a journal was cut off: it has no line `end`.";
@@ -1002,15 +1001,7 @@ fn audit_journals_command<'a>(alloc: Global) -> Made<'a>
     );
     let command = with_arg(command, journals_argument(alloc));
     let command = with_arg(command, journals_image_option(alloc));
-    drawing_options(command, alloc)
-}
-
-/// Adds to a command the words that say what is written of an order, and to which file it is drawn.
-fn drawing_options<'a>(command: Made<'a>, alloc: Global) -> Made<'a>
-    ensures { (made : App) → IsMade command.entry made → IsMade result (with_drawing made) }
-{
-    let command = with_arg(command, order_flag(alloc));
-    with_arg(command, chart_option(alloc))
+    with_arg(command, order_flag(alloc))
 }
 
 /// The words of `audit-journals` that name the files of journals.
@@ -1038,13 +1029,4 @@ fn order_flag<'a>(alloc: Global) -> Arg<'a>
 {
     let help = "Writes the events in their order, in place of a line for each host";
     flag(alloc, "order", help)
-}
-
-/// The option `--chart`: the file to which the order is drawn.
-fn chart_option<'a>(alloc: Global) -> Arg<'a>
-    ensures rule { rule_of result ≡ option (codes "chart") }
-    ensures local { result.global ≡ false }
-{
-    let help = "The SVG file that gets a chart of the order: where the guest ran, and its moves";
-    option(alloc, "chart", "FILE", help)
 }

@@ -719,25 +719,7 @@ fn read_audit_journals<'a>(
         journals: read_journals(names)?,
         image,
         order: flag(audit, "order"),
-        chart: read_chart(audit, names)?,
     })
-}
-
-/// The file of the chart of an order, if one is drawn. Fails with a text if it is a file that the audit reads.
-fn read_chart<'a>(
-    audit: &ArgMatches<'a>,
-    journals: &[&'a str],
-) -> Result<Option<&'a str>, &'static str>
-    ensures { IfOk result (λ file. first_of (codes "chart") (rows_of (found_of audit.now))
-        ≡ option_map (λ s. s.now) file) }
-{
-    let Some(file) = text(audit, "chart") else {
-        return Ok(None);
-    };
-    if is_named(text(audit, "image"), file) || journals.iter().any(|journal| *journal == file) {
-        return Err("the file of --chart is one that is read");
-    }
-    Ok(Some(file))
 }
 
 /// The files of journals with these names. Fails with a text if there are more than 8, or if a file is named twice.

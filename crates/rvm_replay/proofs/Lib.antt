@@ -2,7 +2,7 @@ mod OnlyOne
 mod AllHosts
 mod HostJournals
 mod JournalFaults
-pub mod Meetings
+pub mod OtherMeetings
 mod AuditEnds
 mod Counting
 mod SummaryLines

@@ -33,7 +33,7 @@ pub(crate) fn check_meetings(
 }
 
 /// Checks so each host that the journal with this index tells to have been met.
-#[tactic(auto, using(crate::proofs::Meetings::met_other))]
+#[tactic(auto, using(crate::proofs::OtherMeetings::met_other))]
 fn check_file(
     files: &[JournalFile<'_>],
     first: usize,
