@@ -149,12 +149,16 @@ saved_ends_so : (a : RunArguments) (file begun input symbols : List ℕ) (end : 
 saved_ends_so a file begun input symbols (Ok ended) before after trace_before trace_after report_before report_after is (good, (g, saved, came)) =
     let same = same_watched a.seed a.stop_at_fault (traced_of a.trace) a.steps begun input g is in (
       good,
-      (g, saved, (
-        came.0 ∙ ap (λ (r : Watched). r.ended) same,
-        subst (Appends before after) (ap (λ (r : Watched). r.written) same) came.1,
-        subst (λ (l : List (List ℕ)). Appends trace_before trace_after (concat l)) (ap (λ (r : Watched). r.lines) same) came.2,
-        subst (λ (r : Watched). Appends report_before report_after (report_text a.report (count_of g) [] symbols r)) same came.3,
-      )),
+      (
+        g,
+        saved,
+        (
+          came.0 ∙ ap (λ (r : Watched). r.ended) same,
+          subst (Appends before after) (ap (λ (r : Watched). r.written) same) came.1,
+          subst (λ (l : List (List ℕ)). Appends trace_before trace_after (concat l)) (ap (λ (r : Watched). r.lines) same) came.2,
+          subst (λ (r : Watched). Appends report_before report_after (report_text a.report (count_of g) [] symbols r)) same came.3,
+        ),
+      ),
     )
 saved_ends_so a file begun input symbols (Err r) before after trace_before trace_after report_before report_after is (inl refused) = inl refused
 saved_ends_so a file begun input symbols (Err r) before after trace_before trace_after report_before report_after is (inr (failed, good, (g, saved, some))) =

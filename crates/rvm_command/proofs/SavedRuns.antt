@@ -71,6 +71,6 @@ unfolding pieces_fit
 counts_cover pages n counts segments none same zeros few =
     let size : length counts ≡ 1024 * n = ap length zeros ∙ length-replicate (1024 * n) 0 in
     subst (λ (k : ℕ). Covers k counts segments []) same (
-      subst (λ (s : List Segment). Covers n counts s []) (sym none)
-      (record { listed = refl; size = size; few = omega (arith, size, few); inside = refl })
+    subst (λ (s : List Segment). Covers n counts s []) (sym none)
+    (record { listed = refl; size = size; few = omega (arith, size, few); inside = refl })
     )

@@ -81,9 +81,15 @@ module _ {H G : Type 0} (hears : Received → H → H) (result : H → Option G)
   one_more v left h n reader next g s r =
       record {
         frames = s.frame ∷ r.frames;
-        split =
-            (s.spells.0, s.spells.1, (drop n left, behind_is v left h n reader next s,
-            subst (λ (w : Gathered). Splits w.version (drop n left) r.frames []) s.reader_is r.split));
+        split = (
+          s.spells.0,
+          s.spells.1,
+          (
+            drop n left,
+            behind_is v left h n reader next s,
+            subst (λ (w : Gathered). Splits w.version (drop n left) r.frames []) s.reader_is r.split,
+          ),
+        );
         made = subst (λ w. result (after_all hears result r.frames w) ≡ Some g) s.next_is r.made;
       }
 

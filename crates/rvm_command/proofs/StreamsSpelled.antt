@@ -23,9 +23,15 @@ no_more s = (refl, refl)
 pub one_more : (f : Frame) (fs : List Frame) → stands (Some 1) (kind_of f) ≡ true → version_after (Some 1) f ≡ Some 1
     → IsRest fs → IsRest (f ∷ fs)
 unfolding bytes_of AreSpelled
-one_more f fs stands same rest s =
-    (s.0, (stands, refl), (bytes_of fs, refl,
-    subst (λ v. Splits v (bytes_of fs) (received fs) []) (sym same) (rest s.1)))
+one_more f fs stands same rest s = (
+  s.0,
+  (stands, refl),
+  (
+    bytes_of fs,
+    refl,
+    subst (λ v. Splits v (bytes_of fs) (received fs) []) (sym same) (rest s.1),
+  ),
+)
 
 pub pages_more : (bytes : ℕ → List ℕ) (count first : ℕ) (fs : List Frame) → IsRest fs
     → IsRest (listed (λ p. frame.Page 1 p (suc p) (bytes p)) first count ++ fs)

@@ -6,11 +6,11 @@ ghost use Rattle.rvm_command.specs.Refusals.{IsTold, refused, refused_of_script,
 ghost use Rattle.rvm_elf.specs.Refusals.{refusal_of_file, refusal_of_image};
 ghost use Rattle.rvm_command.specs.SavedRefusals.{restore_refusal, save_refusal};
 
+use crate::saved_fault::{RestoreFault, SaveFault};
 use rvm_asm::AsmError;
 use rvm_debug::ScriptError;
 use rvm_elf::{ReadError, WriteError};
 use rvm_refusal::{LinkFault, Refusal};
-use crate::saved_fault::{RestoreFault, SaveFault};
 use std::fmt;
 use std::io::Write;
 

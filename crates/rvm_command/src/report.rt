@@ -15,6 +15,8 @@ ghost use Rattle.rvm_command.specs.Saved.{saved_bytes};
 
 use crate::coverage::{Counts, write_coverage};
 use crate::profile::write_profile;
+use crate::save::save_guest;
+use crate::saved_fault::SaveFault;
 use crate::trace::word_at;
 use rvm_arguments::{Report, ReportArguments, WordRange};
 use rvm_asm::Segment;
@@ -22,8 +24,6 @@ use rvm_board::Debugged;
 use rvm_dis::Digits;
 use rvm_mem::{Memory, PagedMemory};
 use rvm_refusal::LinkFault;
-use crate::save::save_guest;
-use crate::saved_fault::SaveFault;
 use std::alloc::Global;
 use std::io::Write;
 

@@ -22,7 +22,9 @@ use crate::fault::write_fault;
 use crate::guest::{image_of, load_guest};
 use crate::refused::{Refused, tell};
 use crate::report::{Kept, write_report};
+use crate::restore::{is_saved_guest, restore_guest};
 use crate::run::Ended;
+use crate::saved_fault::SaveFault;
 use crate::symbols::check_symbols;
 use crate::watched::run_asked;
 use rvm_arguments::{
@@ -31,8 +33,6 @@ use rvm_arguments::{
 use rvm_board::Debugged;
 use rvm_mem::{Memory, PAGE_SIZE, PagedMemory};
 use rvm_refusal::{LinkFault, Refusal};
-use crate::restore::{is_saved_guest, restore_guest};
-use crate::saved_fault::SaveFault;
 use std::alloc::Global;
 use std::io::Write;
 

@@ -109,10 +109,7 @@ fn put_page<M: PagedMemory, W: Write>(
 }
 
 /// A page with these bytes.
-fn page_bytes(
-    alloc: Global,
-    page: &[u8; PAGE_SIZE as usize],
-) -> Result<PageBytes, AllocError>
+fn page_bytes(alloc: Global, page: &[u8; PAGE_SIZE as usize]) -> Result<PageBytes, AllocError>
     ensures bytes { IfOk result (λ bytes. bytes ≡ page.now) }
     ensures length { length page.now ≡ 4096 }
 {
