@@ -1,4 +1,4 @@
-//! `rvmove run`: runs the guest of an image, and reports how that ended.
+//! `rvmove run`: runs the guest of an image, or a saved guest, and reports how that ended.
 
 ghost use Rattle.std.specs.Prelude.{◌≡◌, ◌≤◌, ◌⊎◌, ◌++◌, ℕ, [], true, List, None, Result, OnErr, OnOk, IfErr, IfOk, codes, length};
 ghost use Rattle.std.specs.Io.KnownBytes.{Appends, Keeps};
@@ -57,16 +57,17 @@ pub struct RunFiles<T, R> {
     pub report: R,
 }
 
-/// Runs the guest of the file `image`, whose console gets `input`. What the guest sends goes to `output`, the lines of
-/// the steps that `arguments.trace` asks for to `files.trace`, and after the last turn what `arguments.report` asks for
-/// to `files.report`. `symbols` is the file of the symbols of a profile, and empty if no profile is asked for.
+/// Runs the guest of the file `image`, whose console gets `input`. A file that begins with a byte 0 is read as a saved
+/// guest, unless the arguments say that it is plain bytes. What the guest sends goes to `output`, the lines of the steps
+/// that `arguments.trace` asks for to `files.trace`, and after the last turn what `arguments.report` asks for to
+/// `files.report`. `symbols` is the file of the symbols of a profile, and empty if no profile is asked for.
 ///
 /// Returns the status: what `arguments.status` asks for, or 1 if the run was refused. `errors` gets one line: how the
 /// run ended, or the refusal. `BadToken` with the number of the first line of `symbols` that is refused, the fault of
-/// the file, `OutsideRam` if the image does not lie in RAM, and `OutOfMemory` leave `output` and `files` unchanged;
-/// `LinkFault` says that a write to one of them failed, and a part of what the
-/// guest sent, of the trace and of the report may have been written. No clause says when a writer fails. The error
-/// `LinkFault` says that a write to `errors` failed.
+/// the file, `OutsideRam` if the image does not lie in RAM, and `OutOfMemory` leave `output` and `files` unchanged, but
+/// that memory may also run out as the guest is saved after its last turn. Then, and with `LinkFault`, which says that a
+/// write to one of them failed, a part of what the guest sent, of the trace and of the report may have been written. No
+/// clause says when a writer fails. The error `LinkFault` says that a write to `errors` failed.
 pub fn run_command<M: PagedMemory + Drop, O: Write, T: Write, R: Write, E: Write>(
     alloc: Global,
     arguments: &RunArguments,
