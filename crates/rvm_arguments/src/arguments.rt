@@ -130,6 +130,8 @@ pub enum Report<'a> {
         /// The file of the symbols: the lines of `nm -n`.
         symbols: &'a str,
     },
+    /// The guest as the run left it, from which `rvmove run` goes on: the frames that a move of it sends.
+    SavedGuest,
 }
 
 /// The words of a range of addresses.

@@ -19,7 +19,7 @@ use Rattle.rvm_command.specs.Ends.{IsLoadable}
 use Rattle.rvm_command.specs.Counting.{AreRuns, Covers, wants_counts, is_counted, has_place, noted, number_at, one_more, place_of, written_report, written_text}
 use Rattle.rvm_command.specs.Coverage.{counted_line, counted_lines, counted_listing, coverage, has_run, in_ten, ran_at, runs_at}
 use Rattle.rvm_arguments.specs.declared.arguments.Report.{Report}
-use Rattle.rvm_arguments.specs.declared.arguments.Report.TheVariants.{Coverage, Profile, Signature}
+use Rattle.rvm_arguments.specs.declared.arguments.Report.TheVariants.{Coverage, Profile, SavedGuest, Signature}
 use Rattle.rvm_arguments.specs.declared.arguments.ReportArguments.{ReportArguments}
 use Rattle.rvm_command.proofs.Profiling.{profiled}
 use Rattle.rvm_command.specs.Reports.{report_text, reported}
@@ -305,6 +305,7 @@ report_by Coverage segments pages pieces symbols counts old r same are covers =
     (subst (λ n. pieces_fit pieces (4 * n) ≡ true) (sym same) c.inside)
 report_by (Profile file) segments pages pieces symbols counts old r same are covers =
     let c = covers refl in profiled counts r.steps pages (symbols_of symbols) are (same ∙ c.size)
+report_by SavedGuest segments pages pieces symbols counts old r same are covers = refl
 
 -- what was written of a report by the numbers is the report
 pub report_is : (asked : Option ReportArguments) (segments : List Segment) (pages : ℕ) (pieces : List Piece) (symbols counts old : List ℕ) (r : Watched)

@@ -14,7 +14,8 @@ use Rattle.rvm_board.specs.Events.{Answered, answered}
 use Rattle.rvm_command.specs.declared.refused.Refused.{Refused}
 use Rattle.rvm_command.specs.declared.run.Ended.{Ended}
 use Rattle.rvm_command.specs.Command.{guest_of, image_of}
-use Rattle.rvm_command.specs.Ends.{IsRunEnd, Writes}
+use Rattle.rvm_command.specs.Ends.{IsImageRunEnd, IsRunEnd, IsRunEndOf, IsSavedRunEnd, Writes, is_saved}
+use Rattle.rvm_guest.specs.Pages.{count_of}
 use Rattle.rvm_command.specs.Reports.{report_text}
 use Rattle.rvm_command.specs.Taken.{steps_in}
 use Rattle.rvm_command.specs.Watched.{Watched, end_at, fault_among, run_with, trace_of, traced_of, turns_of, turns_until}
@@ -117,11 +118,11 @@ if_ok : {X E : Type 0} (r : Result X E) (P Q : X → Type 0) → ((x : X) → P 
 if_ok (Ok x) P Q f p = f x p
 if_ok (Err e) P Q f p = tt
 
--- how a run ended that was given the bytes of its input that its turns can take, so it ends with all of them
-pub ends_so : (a : RunArguments) (file begun input symbols : List ℕ) (end : Result Ended Refused) (before after trace_before trace_after report_before report_after : Option (List ℕ))
-    → begun ≡ take a.steps input → IsRunEnd a file begun symbols end before after trace_before trace_after report_before report_after
-    → IsRunEnd a file input symbols end before after trace_before trace_after report_before report_after
-ends_so a file begun input symbols (Ok ended) before after trace_before trace_after report_before report_after is (begun_so, came) = (
+-- how a run of an image ended that was given the bytes of its input that its turns can take, so it ends with all of them
+image_ends_so : (a : RunArguments) (file begun input symbols : List ℕ) (end : Result Ended Refused) (before after trace_before trace_after report_before report_after : Option (List ℕ))
+    → begun ≡ take a.steps input → IsImageRunEnd a file begun symbols end before after trace_before trace_after report_before report_after
+    → IsImageRunEnd a file input symbols end before after trace_before trace_after report_before report_after
+image_ends_so a file begun input symbols (Ok ended) before after trace_before trace_after report_before report_after is (begun_so, came) = (
   begun_so,
   if_ok (image_of a.guest.raw file) _ _ (λ i came.
       let same = same_watched a.seed a.stop_at_fault (traced_of a.trace) a.steps begun input (guest_of a.guest.harts a.guest.pages i.0 i.1) is in (
@@ -131,8 +132,8 @@ ends_so a file begun input symbols (Ok ended) before after trace_before trace_af
         subst (λ (r : Watched). Appends report_before report_after (report_text a.report a.guest.pages i.1 symbols r)) same came.3,
       )) came,
 )
-ends_so a file begun input symbols (Err r) before after trace_before trace_after report_before report_after is (inl refused) = inl refused
-ends_so a file begun input symbols (Err r) before after trace_before trace_after report_before report_after is (inr (failed, begun_so, came)) =
+image_ends_so a file begun input symbols (Err r) before after trace_before trace_after report_before report_after is (inl refused) = inl refused
+image_ends_so a file begun input symbols (Err r) before after trace_before trace_after report_before report_after is (inr (failed, begun_so, came)) =
     inr (
       failed,
       begun_so,
@@ -140,3 +141,41 @@ ends_so a file begun input symbols (Err r) before after trace_before trace_after
           let same = same_watched a.seed a.stop_at_fault (traced_of a.trace) a.steps begun input (guest_of a.guest.harts a.guest.pages i.0 i.1) is in
           subst (λ (r : Watched). Writes r a.trace a.report) same some) came,
     )
+
+-- the same of a run of a saved guest
+saved_ends_so : (a : RunArguments) (file begun input symbols : List ℕ) (end : Result Ended Refused) (before after trace_before trace_after report_before report_after : Option (List ℕ))
+    → begun ≡ take a.steps input → IsSavedRunEnd a file begun symbols end before after trace_before trace_after report_before report_after
+    → IsSavedRunEnd a file input symbols end before after trace_before trace_after report_before report_after
+saved_ends_so a file begun input symbols (Ok ended) before after trace_before trace_after report_before report_after is (good, (g, saved, came)) =
+    let same = same_watched a.seed a.stop_at_fault (traced_of a.trace) a.steps begun input g is in (
+      good,
+      (
+        g,
+        saved,
+        (
+          came.0 ∙ ap (λ (r : Watched). r.ended) same,
+          subst (Appends before after) (ap (λ (r : Watched). r.written) same) came.1,
+          subst (λ (l : List (List ℕ)). Appends trace_before trace_after (concat l)) (ap (λ (r : Watched). r.lines) same) came.2,
+          subst (λ (r : Watched). Appends report_before report_after (report_text a.report (count_of g) [] symbols r)) same came.3,
+        ),
+      ),
+    )
+saved_ends_so a file begun input symbols (Err r) before after trace_before trace_after report_before report_after is (inl refused) = inl refused
+saved_ends_so a file begun input symbols (Err r) before after trace_before trace_after report_before report_after is (inr (failed, good, (g, saved, some))) =
+    let same = same_watched a.seed a.stop_at_fault (traced_of a.trace) a.steps begun input g is in
+    inr (failed, good, (g, saved, subst (λ (r : Watched). Writes r a.trace a.report) same some))
+
+ends_as : (saved : Bool) (a : RunArguments) (file begun input symbols : List ℕ) (end : Result Ended Refused) (before after trace_before trace_after report_before report_after : Option (List ℕ))
+    → begun ≡ take a.steps input → IsRunEndOf saved a file begun symbols end before after trace_before trace_after report_before report_after
+    → IsRunEndOf saved a file input symbols end before after trace_before trace_after report_before report_after
+ends_as true a file begun input symbols end before after trace_before trace_after report_before report_after is e =
+    saved_ends_so a file begun input symbols end before after trace_before trace_after report_before report_after is e
+ends_as false a file begun input symbols end before after trace_before trace_after report_before report_after is e =
+    image_ends_so a file begun input symbols end before after trace_before trace_after report_before report_after is e
+
+-- the same of a run of a file
+pub ends_so : (a : RunArguments) (file begun input symbols : List ℕ) (end : Result Ended Refused) (before after trace_before trace_after report_before report_after : Option (List ℕ))
+    → begun ≡ take a.steps input → IsRunEnd a file begun symbols end before after trace_before trace_after report_before report_after
+    → IsRunEnd a file input symbols end before after trace_before trace_after report_before report_after
+ends_so a file begun input symbols end before after trace_before trace_after report_before report_after is e =
+    ends_as (is_saved a file) a file begun input symbols end before after trace_before trace_after report_before report_after is e

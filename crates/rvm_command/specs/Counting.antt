@@ -1,7 +1,7 @@
 -- Numbers of the words of RAM, as a run counts how often each of them ran.
 use Rattle.std.specs.Prelude.{◌≡◌, ◌≤◌, ℕ, true, ◌+◌, ◌-◌, ◌*◌, ◌/◌, ◌%◌, ◌^◌, ◌<◌, ◌==◌, ◌&&◌, Bool, false, nat_le, nat_lt, if◌then◌else◌, List, [], Option, None, Some, length, min, take, drop, sum, get_or, slice_set}
 use Rattle.rvm_arguments.specs.declared.arguments.Report.{Report}
-use Rattle.rvm_arguments.specs.declared.arguments.Report.TheVariants.{Coverage, Profile, Signature}
+use Rattle.rvm_arguments.specs.declared.arguments.Report.TheVariants.{Coverage, Profile, SavedGuest, Signature}
 use Rattle.rvm_arguments.specs.declared.arguments.ReportArguments.{ReportArguments}
 use Rattle.rvm_asm.specs.declared.image.Segment.{Segment}
 use Rattle.rvm_asm.specs.Images.{Piece, pieces_of}
@@ -9,6 +9,7 @@ use Rattle.rvm_board.specs.Guest.{Guest}
 use Rattle.rvm_board.specs.declared.event.BoardReply.{BoardReply}
 use Rattle.rvm_elf.specs.Load.{pieces_fit}
 use Rattle.rvm_hart.specs.Bus.{ram_base}
+use Rattle.rvm_command.specs.Saved.{saved_bytes}
 use Rattle.rvm_command.specs.Coverage.{counted_listing, has_run, runs_at}
 use Rattle.rvm_command.specs.Profile.{symbol_lines}
 use Rattle.rvm_command.specs.Reports.{signature}
@@ -57,6 +58,7 @@ abbrev pub written_report : Report → List Piece → (symbols counts : List ℕ
 written_report (Signature range) pieces symbols counts g = signature range g
 written_report Coverage pieces symbols counts g = counted_listing (number_at counts) pieces
 written_report (Profile file) pieces symbols counts g = symbol_lines (sum_between counts) (symbols_of symbols)
+written_report SavedGuest pieces symbols counts g = saved_bytes g
 
 -- the same of the report, if one is asked for
 abbrev pub written_text : Option ReportArguments → List Piece → (symbols counts : List ℕ) → (after : Guest) → List ℕ
@@ -72,6 +74,12 @@ abbrev pub wants_counts : Report → Bool
 wants_counts (Signature range) = false
 wants_counts Coverage = true
 wants_counts (Profile file) = true
+wants_counts SavedGuest = false
+
+-- whether a report is of what ran or was read, and no saved guest
+abbrev pub is_listing : Report → Bool
+is_listing SavedGuest = false
+is_listing report = true
 
 -- whether the report on a run does, if one is asked for
 abbrev pub is_counted : Option ReportArguments → Bool

@@ -1,5 +1,5 @@
 -- How each command ends, what it wrote to its output until then, and the status that it returns.
-use Rattle.std.specs.Prelude.{◌≡◌, ◌⊎◌, ℕ, zero, suc, ◌+◌, ◌*◌, ◌^◌, ◌<◌, ◌≤◌, ◌==◌, Bool, true, false, List, ◌++◌, Option, Some, None, Result, Ok, Err, IfOk, IfSome, IsOk, length, take, codes, count_by}
+use Rattle.std.specs.Prelude.{◌≡◌, ◌⊎◌, ℕ, zero, suc, ◌+◌, ◌*◌, ◌^◌, ◌<◌, ◌≤◌, ◌==◌, ◌&&◌, not, Bool, true, false, List, [], ◌++◌, Option, Some, None, Result, Ok, Err, IfOk, IfSome, IsOk, length, take, codes, count_by}
 use Rattle.std.specs.Str.{IsUtf8, IsValidUpTo}
 use Rattle.std.specs.Io.KnownBytes.{Appends, Keeps}
 use Rattle.std.specs.List.{concat}
@@ -16,8 +16,16 @@ use Rattle.rvm_debug.specs.declared.script.ScriptError.{ScriptError}
 use Rattle.rvm_debug.specs.declared.script.ScriptError.TheVariants as script
 use Rattle.rvm_debug.specs.Script.{Answers, script_of}
 use Rattle.rvm_debug.specs.Words.{lines}
+use Rattle.rvm_guest.specs.Pages.{count_of}
+use Rattle.rvm_command.specs.declared.saved_fault.RestoreFault.{RestoreFault}
+use Rattle.rvm_command.specs.declared.saved_fault.SaveFault.{SaveFault}
+use Rattle.rvm_command.specs.declared.saved_fault.SaveFault.TheVariants as save
+use Rattle.rvm_command.specs.Restoring.{IsRefused}
+use Rattle.rvm_command.specs.SavedRefusals.{restore_refusal}
+use Rattle.rvm_command.specs.Saved.{IsSavedGuest, begins_saved}
 use Rattle.rvm_refusal.specs.declared.refusal.Refusal.TheVariants.{OutOfMemory, OutsideRam, BadToken, LinkFault}
 use Rattle.rvm_arguments.specs.declared.arguments.DebugArguments.{DebugArguments}
+use Rattle.rvm_arguments.specs.declared.arguments.Report.TheVariants.{SavedGuest}
 use Rattle.rvm_arguments.specs.declared.arguments.ReportArguments.{ReportArguments}
 use Rattle.rvm_arguments.specs.declared.arguments.RunArguments.{RunArguments}
 use Rattle.rvm_arguments.specs.declared.arguments.StatusOf.{StatusOf}
@@ -32,7 +40,7 @@ use Rattle.rvm_command.specs.Command.{FileImage, end_text, guest_of, image_of, l
 use Rattle.rvm_command.specs.ExtendedRuns.{session_told}
 use Rattle.rvm_command.specs.Reports.{report_text}
 use Rattle.rvm_command.specs.SymbolLines.{refused_line}
-use Rattle.rvm_command.specs.Watched.{Watched}
+use Rattle.rvm_command.specs.Watched.{Watched, run_with, traced_of}
 use Rattle.rvm_command.specs.Refusals.{IsTold, refused, refused_at, refused_of_text, refused_of_script}
 use Rattle.rvm_elf.specs.Refusals.{refusal_of_file, refusal_of_image}
 
@@ -70,6 +78,14 @@ Writes r trace report = (0 < length r.written) ⊎ (IsTraced trace ⊎ IsReporte
 abbrev pub IsSymbolRefusal : (symbols : List ℕ) → Refused → Type 0
 IsSymbolRefusal symbols r = (n : ℕ) × (refused_line symbols ≡ Some n) × (r ≡ refused_at n BadToken)
 
+-- whether a file is read as a saved guest: it begins as one does, and is not said to be plain bytes
+abbrev pub is_saved : RunArguments → (file : List ℕ) → Bool
+is_saved a file = not a.guest.raw && begins_saved file
+
+-- the run of a guest that these arguments ask for, with this input
+abbrev pub guest_run : RunArguments → Guest → (input : List ℕ) → Watched
+guest_run a g input = run_with a.seed a.stop_at_fault (traced_of a.trace) a.steps input g
+
 -- a run is refused before its first turn: for its symbols or, if these are good, since its guest is not loaded
 abbrev pub IsRunRefusal : RunArguments → (file symbols : List ℕ) → Refused → Type 0
 IsRunRefusal a file symbols r =
@@ -80,21 +96,80 @@ IsRunRefusal a file symbols r =
 abbrev pub CanRun : RunArguments → (file symbols : List ℕ) → Type 0
 CanRun a file symbols = (refused_line symbols ≡ None) × IsLoadable (image_of a.guest.raw file) a.guest.pages
 
--- a run has made its last turn, or was refused: before its first, or since a write failed, of its output, its trace or
--- its report
-abbrev pub IsRunEnd : RunArguments → (file input symbols : List ℕ) → Result Ended Refused
+-- a guest is saved after the last turn
+abbrev pub IsSaving : Option ReportArguments → Type 0
+IsSaving None = ⊥
+IsSaving (Some asked) = asked.report ≡ SavedGuest
+
+-- a report failed: a write did, or memory ran out as the guest was saved
+abbrev pub IsFaultOf : Option ReportArguments → SaveFault → Type 0
+IsFaultOf report save.LinkFault = Unit {0}
+IsFaultOf report save.OutOfMemory = IsSaving report
+
+-- a run that had begun broke off: a write failed, or memory ran out as its guest was saved
+abbrev pub IsBroken : Option ReportArguments → Refused → Type 0
+IsBroken report r = (r ≡ refused LinkFault) ⊎ ((r ≡ refused OutOfMemory) × IsSaving report)
+
+-- a run of an image has made its last turn, or was refused: before its first, or since it broke off
+abbrev pub IsImageRunEnd : RunArguments → (file input symbols : List ℕ) → Result Ended Refused
     → (before after trace_before trace_after report_before report_after : Option (List ℕ)) → Type 0
-IsRunEnd a file input symbols (Ok ended) before after trace_before trace_after report_before report_after =
+IsImageRunEnd a file input symbols (Ok ended) before after trace_before trace_after report_before report_after =
     CanRun a file symbols
     × IfOk (image_of a.guest.raw file) (λ i.
     (ended ≡ (run_of a i input).ended) × Appends before after (run_of a i input).written
     × Appends trace_before trace_after (concat (run_of a i input).lines)
     × Appends report_before report_after (report_text a.report a.guest.pages i.1 symbols (run_of a i input)))
-IsRunEnd a file input symbols (Err r) before after trace_before trace_after report_before report_after =
+IsImageRunEnd a file input symbols (Err r) before after trace_before trace_after report_before report_after =
     (IsRunRefusal a file symbols r × (after ≡ before) × (trace_after ≡ trace_before)
     × (report_after ≡ report_before))
-    ⊎ ((r ≡ refused LinkFault) × CanRun a file symbols
+    ⊎ (IsBroken a.report r × CanRun a file symbols
     × IfOk (image_of a.guest.raw file) (λ i. Writes (run_of a i input) a.trace a.report))
+
+-- a saved guest is refused: for the fault of its bytes, or since memory ran out
+abbrev pub IsSavedRefusal : (file : List ℕ) → Refused → Type 0
+IsSavedRefusal file r = (fault : RestoreFault) × (r ≡ refused (restore_refusal fault)) × IsRefused (IsSavedGuest file) fault
+
+-- the same of a run of a saved guest, which has no image
+abbrev pub IsSavedRunEnd : RunArguments → (file input symbols : List ℕ) → Result Ended Refused
+    → (before after trace_before trace_after report_before report_after : Option (List ℕ)) → Type 0
+IsSavedRunEnd a file input symbols (Ok ended) before after trace_before trace_after report_before report_after =
+    (refused_line symbols ≡ None)
+    × ((g : Guest) × IsSavedGuest file g
+    × (ended ≡ (guest_run a g input).ended) × Appends before after (guest_run a g input).written
+    × Appends trace_before trace_after (concat (guest_run a g input).lines)
+    × Appends report_before report_after (report_text a.report (count_of g) [] symbols (guest_run a g input)))
+IsSavedRunEnd a file input symbols (Err r) before after trace_before trace_after report_before report_after =
+    ((IsSymbolRefusal symbols r ⊎ ((refused_line symbols ≡ None) × IsSavedRefusal file r)) × (after ≡ before)
+    × (trace_after ≡ trace_before) × (report_after ≡ report_before))
+    ⊎ (IsBroken a.report r × (refused_line symbols ≡ None)
+    × ((g : Guest) × IsSavedGuest file g × Writes (guest_run a g input) a.trace a.report))
+
+-- a run of a saved guest can begin: its symbols are good, and its bytes are a saved guest
+abbrev pub CanRunSaved : (file symbols : List ℕ) → Type 0
+CanRunSaved file symbols = (refused_line symbols ≡ None) × ((g : Guest) × IsSavedGuest file g)
+
+-- a run of a file can begin
+abbrev pub CanBeginAs : (saved : Bool) → RunArguments → (file symbols : List ℕ) → Type 0
+CanBeginAs true a file symbols = CanRunSaved file symbols
+CanBeginAs false a file symbols = CanRun a file symbols
+
+-- a run of a file can begin, as one of a saved guest or of an image
+abbrev pub CanBegin : RunArguments → (file symbols : List ℕ) → Type 0
+CanBegin a file symbols = CanBeginAs (is_saved a file) a file symbols
+
+-- a run of a file ends as one of a saved guest, or as one of an image
+abbrev pub IsRunEndOf : (saved : Bool) → RunArguments → (file input symbols : List ℕ) → Result Ended Refused
+    → (before after trace_before trace_after report_before report_after : Option (List ℕ)) → Type 0
+IsRunEndOf true a file input symbols r before after trace_before trace_after report_before report_after =
+    IsSavedRunEnd a file input symbols r before after trace_before trace_after report_before report_after
+IsRunEndOf false a file input symbols r before after trace_before trace_after report_before report_after =
+    IsImageRunEnd a file input symbols r before after trace_before trace_after report_before report_after
+
+-- a run has made its last turn, or was refused: before its first, or since it broke off
+abbrev pub IsRunEnd : RunArguments → (file input symbols : List ℕ) → Result Ended Refused
+    → (before after trace_before trace_after report_before report_after : Option (List ℕ)) → Type 0
+IsRunEnd a file input symbols r before after trace_before trace_after report_before report_after =
+    IsRunEndOf (is_saved a file) a file input symbols r before after trace_before trace_after report_before report_after
 
 -- the lines of an image are written, or it was refused: for its file, or since a write failed
 abbrev pub IsListEnd : FileImage → Result (Unit {0}) Refused

@@ -29,3 +29,10 @@ pub mod ExtendedAnswers
 pub mod ExtendedScript
 pub mod ExtendedRuns
 pub mod TraceLaw
+pub mod SentFrames
+pub mod Streams
+pub mod Saved
+pub mod Puts
+pub mod Restoring
+pub mod SavedRefusals
+pub mod RunsJoined

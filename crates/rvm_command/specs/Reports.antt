@@ -1,12 +1,13 @@
 -- What is reported of a run once it has ended.
 use Rattle.std.specs.Prelude.{ℕ, zero, suc, ◌+◌, ◌/◌, ◌%◌, ◌^◌, List, [], ◌++◌, Option, Some, None, codes}
 use Rattle.rvm_arguments.specs.declared.arguments.Report.{Report}
-use Rattle.rvm_arguments.specs.declared.arguments.Report.TheVariants.{Coverage, Profile, Signature}
+use Rattle.rvm_arguments.specs.declared.arguments.Report.TheVariants.{Coverage, Profile, SavedGuest, Signature}
 use Rattle.rvm_arguments.specs.declared.arguments.ReportArguments.{ReportArguments}
 use Rattle.rvm_arguments.specs.declared.arguments.WordRange.{WordRange}
 use Rattle.rvm_asm.specs.Images.{Piece}
 use Rattle.rvm_board.specs.Guest.{Guest}
 use Rattle.rvm_dis.specs.Pieces.{hex_digits}
+use Rattle.rvm_command.specs.Saved.{saved_bytes}
 use Rattle.rvm_command.specs.Coverage.{coverage}
 use Rattle.rvm_command.specs.Profile.{profile}
 use Rattle.rvm_command.specs.Watched.{Watched}
@@ -31,6 +32,7 @@ abbrev pub reported : Report → (pages : ℕ) → List Piece → (symbols : Lis
 reported (Signature range) pages pieces symbols r = signature range r.guest
 reported Coverage pages pieces symbols r = coverage pieces r.steps
 reported (Profile file) pages pieces symbols r = profile pages symbols r.steps
+reported SavedGuest pages pieces symbols r = saved_bytes r.guest
 
 -- the report, if one is asked for
 abbrev pub report_text : Option ReportArguments → (pages : ℕ) → List Piece → (symbols : List ℕ) → Watched → List ℕ

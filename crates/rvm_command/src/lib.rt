@@ -4,11 +4,12 @@
 //!
 //! Stands on `rvm_board` and `rvm_debug` for the debugged board and its scripts, on `rvm_isa`, `rvm_csr` and `rvm_dev` for
 //! what a trace and an extended session show of it, on `rvm_elf` for images, on `rvm_asm` and `rvm_dis`, on `rvm_core` for
-//! worlds and their scripts, and on `rvm_arguments`. It must not know files, processes or the terminal.
+//! worlds and their scripts, on `rvm_host` for guests that are read from a stream, and on `rvm_arguments`. It must not know
+//! files, processes or the terminal.
 //!
-//! To be read in this order: `guest`, `refused`, `flush`, `output_buffer`, `fault`, `run`, `trace`, `latest_traps`,
-//! `coverage`, `symbols`, `profile`, `order`, `watched`, `report`, `run_command`, `orders_command`, `asm_command`,
-//! `dis_command`; `extended_command`, `extended_line`, `find_fault`, `extended_answers`, `extended_lines`,
+//! To be read in this order: `saved_fault`, `save`, `restore`; `guest`, `refused`, `flush`, `output_buffer`, `fault`, `run`,
+//! `trace`, `latest_traps`, `coverage`, `symbols`, `profile`, `order`, `watched`, `report`, `run_command`, `orders_command`,
+//! `asm_command`, `dis_command`; `extended_command`, `extended_line`, `find_fault`, `extended_answers`, `extended_lines`,
 //! `extended_script`, `debug_command`; `script_refused`, `first_world`, `script_command`; `laws`.
 #![tactic(auto)]
 
@@ -34,8 +35,11 @@ mod output_buffer;
 mod profile;
 pub mod refused;
 mod report;
+pub mod restore;
 pub mod run;
 pub mod run_command;
+pub mod save;
+pub mod saved_fault;
 pub mod script_command;
 mod script_refused;
 pub mod symbols;

@@ -4,7 +4,9 @@ ghost use Rattle.std.specs.Prelude.{◌≡◌, IfOk};
 ghost use Rattle.rvm_refusal.specs.declared.refusal.Refusal.TheVariants as refusal;
 ghost use Rattle.rvm_command.specs.Refusals.{IsTold, refused, refused_of_script, refused_of_text};
 ghost use Rattle.rvm_elf.specs.Refusals.{refusal_of_file, refusal_of_image};
+ghost use Rattle.rvm_command.specs.SavedRefusals.{restore_refusal, save_refusal};
 
+use crate::saved_fault::{RestoreFault, SaveFault};
 use rvm_asm::AsmError;
 use rvm_debug::ScriptError;
 use rvm_elf::{ReadError, WriteError};
@@ -64,6 +66,24 @@ impl From<ReadError> for Refused {
 
     fn from(error: ReadError) -> Refused {
         Refused::from(Refusal::from(error))
+    }
+}
+
+/// The refusal of a guest that was not saved.
+impl From<SaveFault> for Refused {
+    ghost from_gives = { λ fault told. told ≡ refused (save_refusal fault) };
+
+    fn from(fault: SaveFault) -> Refused {
+        Refused::from(Refusal::from(fault))
+    }
+}
+
+/// The refusal of bytes that are no saved guest.
+impl From<RestoreFault> for Refused {
+    ghost from_gives = { λ fault told. told ≡ refused (restore_refusal fault) };
+
+    fn from(fault: RestoreFault) -> Refused {
+        Refused::from(Refusal::from(fault))
     }
 }
 

@@ -1,12 +1,16 @@
-//! `rvmove run`: runs the guest of an image, and reports how that ended.
+//! `rvmove run`: runs the guest of an image, or a saved guest, and reports how that ended.
 
-ghost use Rattle.std.specs.Prelude.{◌≡◌, ◌⊎◌, ◌++◌, [], true, List, None, Result, OnErr, OnOk, IfErr, IfOk, codes, length};
+ghost use Rattle.std.specs.Prelude.{◌≡◌, ◌≤◌, ◌⊎◌, ◌++◌, ℕ, [], true, List, None, Result, OnErr, OnOk, IfErr, IfOk, codes, length};
 ghost use Rattle.std.specs.Io.KnownBytes.{Appends, Keeps};
 ghost use Rattle.rvm_arguments.specs.declared.arguments.StatusOf.TheVariants as tells;
 ghost use Rattle.rvm_command.specs.declared.refused.Refused.{Refused};
+ghost use Rattle.rvm_command.specs.Refusals.{refused};
 ghost use Rattle.rvm_command.specs.declared.run.Ended.{Ended};
+ghost use Rattle.rvm_refusal.specs.declared.refusal.Refusal.TheVariants.{OutOfMemory};
+ghost use Rattle.rvm_guest.specs.Pages.{count_of};
+ghost use Rattle.rvm_command.specs.Saved.{IsSavedGuest};
 ghost use Rattle.rvm_command.specs.Command.{end_text, guest_of, image_of};
-ghost use Rattle.rvm_command.specs.Ends.{CanRun, IsFileRefusal, IsLoadable, IsRunEnd, IsTraced, RunHasStatus, Writes, run_status};
+ghost use Rattle.rvm_command.specs.Ends.{CanBegin, CanRun, CanRunSaved, IsFaultOf, IsFileRefusal, IsImageRunEnd, IsLoadable, IsRunEnd, IsSavedRunEnd, IsTraced, RunHasStatus, Writes, is_saved, run_status};
 ghost use Rattle.rvm_asm.specs.Images.{Piece};
 ghost use Rattle.rvm_command.specs.Counting.{AreRuns, Covers, is_counted, wants_counts};
 ghost use Rattle.rvm_command.specs.Reports.{report_text};
@@ -18,7 +22,9 @@ use crate::fault::write_fault;
 use crate::guest::{image_of, load_guest};
 use crate::refused::{Refused, tell};
 use crate::report::{Kept, write_report};
+use crate::restore::{is_saved_guest, restore_guest};
 use crate::run::Ended;
+use crate::saved_fault::SaveFault;
 use crate::symbols::check_symbols;
 use crate::watched::run_asked;
 use rvm_arguments::{
@@ -51,16 +57,17 @@ pub struct RunFiles<T, R> {
     pub report: R,
 }
 
-/// Runs the guest of the file `image`, whose console gets `input`. What the guest sends goes to `output`, the lines of
-/// the steps that `arguments.trace` asks for to `files.trace`, and after the last turn what `arguments.report` asks for
-/// to `files.report`. `symbols` is the file of the symbols of a profile, and empty if no profile is asked for.
+/// Runs the guest of the file `image`, whose console gets `input`. A file that begins with a byte 0 is read as a saved
+/// guest, unless the arguments say that it is plain bytes. What the guest sends goes to `output`, the lines of the steps
+/// that `arguments.trace` asks for to `files.trace`, and after the last turn what `arguments.report` asks for to
+/// `files.report`. `symbols` is the file of the symbols of a profile, and empty if no profile is asked for.
 ///
 /// Returns the status: what `arguments.status` asks for, or 1 if the run was refused. `errors` gets one line: how the
 /// run ended, or the refusal. `BadToken` with the number of the first line of `symbols` that is refused, the fault of
-/// the file, `OutsideRam` if the image does not lie in RAM, and `OutOfMemory` leave `output` and `files` unchanged;
-/// `LinkFault` says that a write to one of them failed, and a part of what the
-/// guest sent, of the trace and of the report may have been written. No clause says when a writer fails. The error
-/// `LinkFault` says that a write to `errors` failed.
+/// the file, `OutsideRam` if the image does not lie in RAM, and `OutOfMemory` leave `output` and `files` unchanged, but
+/// that memory may also run out as the guest is saved after its last turn. Then, and with `LinkFault`, which says that a
+/// write to one of them failed, a part of what the guest sent, of the trace and of the report may have been written. No
+/// clause says when a writer fails. The error `LinkFault` says that a write to `errors` failed.
 pub fn run_command<M: PagedMemory + Drop, O: Write, T: Write, R: Write, E: Write>(
     alloc: Global,
     arguments: &RunArguments,
@@ -80,12 +87,12 @@ pub fn run_command<M: PagedMemory + Drop, O: Write, T: Write, R: Write, E: Write
     ensures output { (end : Result Ended Refused) × IsRunEnd arguments.now image.now input.now symbols.now end
         (O.contents output.old) (O.contents output.new) (T.contents files.old.trace) (T.contents files.new.trace)
         (R.contents files.old.report) (R.contents files.new.report) }
-    ensures unbegun { CanRun arguments.now image.now symbols.now
+    ensures unbegun { CanBegin arguments.now image.now symbols.now
         ⊎ ((O.contents output.new ≡ O.contents output.old)
         × (T.contents files.new.trace ≡ T.contents files.old.trace)
         × (R.contents files.new.report ≡ R.contents files.old.report)) }
 {
-    match run_image::<M, O, T, R>(alloc, arguments, image, input, symbols, output, files) {
+    match run_file::<M, O, T, R>(alloc, arguments, image, input, symbols, output, files) {
         Ok(ended) => tell_run_end(ended, arguments.status, errors),
         Err(refused) => tell(refused, errors),
     }
@@ -154,6 +161,158 @@ fn guest_status(ended: Ended) -> u8
     }
 }
 
+/// Runs the guest of a file, which is a saved guest or an image. Returns how the run ended, or why it was refused.
+#[tactic(auto, using(crate::proofs::SavedRuns::ended_saved, crate::proofs::SavedRuns::ended_image, crate::proofs::SavedRuns::begins_saved, crate::proofs::SavedRuns::begins_image))]
+fn run_file<M: PagedMemory + Drop, O: Write, T: Write, R: Write>(
+    alloc: Global,
+    arguments: &RunArguments,
+    image: &[u8],
+    input: &[u8],
+    symbols: &[u8],
+    output: &mut O,
+    files: &mut RunFiles<T, R>,
+) -> Result<Ended, Refused>
+    ensures end { IsRunEnd arguments.now image.now input.now symbols.now result
+        (O.contents output.old) (O.contents output.new) (T.contents files.old.trace) (T.contents files.new.trace)
+        (R.contents files.old.report) (R.contents files.new.report) }
+    ensures unbegun { CanBegin arguments.now image.now symbols.now
+        ⊎ ((O.contents output.new ≡ O.contents output.old)
+        × (T.contents files.new.trace ≡ T.contents files.old.trace)
+        × (R.contents files.new.report ≡ R.contents files.old.report)) }
+{
+    if is_saved(arguments, image) {
+        run_saved::<M, O, T, R>(alloc, arguments, image, input, symbols, output, files)
+    } else {
+        run_image::<M, O, T, R>(alloc, arguments, image, input, symbols, output, files)
+    }
+}
+
+/// Whether a file is read as a saved guest: it begins as one does, and is not said to be plain bytes.
+fn is_saved(arguments: &RunArguments, file: &[u8]) -> bool
+    ensures { result ≡ is_saved arguments.now file.now }
+{
+    !arguments.guest.raw && is_saved_guest(file)
+}
+
+/// Checks the symbols, reads the saved guest and runs it. Returns how the run ended, or why it was refused.
+fn run_saved<M: PagedMemory + Drop, O: Write, T: Write, R: Write>(
+    alloc: Global,
+    arguments: &RunArguments,
+    file: &[u8],
+    input: &[u8],
+    symbols: &[u8],
+    output: &mut O,
+    files: &mut RunFiles<T, R>,
+) -> Result<Ended, Refused>
+    ensures end { IsSavedRunEnd arguments.now file.now input.now symbols.now result
+        (O.contents output.old) (O.contents output.new) (T.contents files.old.trace) (T.contents files.new.trace)
+        (R.contents files.old.report) (R.contents files.new.report) }
+    ensures unbegun { CanRunSaved file.now symbols.now
+        ⊎ ((O.contents output.new ≡ O.contents output.old)
+        × (T.contents files.new.trace ≡ T.contents files.old.trace)
+        × (R.contents files.new.report ≡ R.contents files.old.report)) }
+{
+    check_symbols(symbols)?;
+    run_checked_saved::<M, O, T, R>(alloc, arguments, file, input, symbols, output, files)
+}
+
+/// Reads the saved guest and runs it, by symbols that are good. Returns how the run ended, or why it was refused.
+#[tactic(auto, using(crate::proofs::SavedRuns::not_read))]
+fn run_checked_saved<M: PagedMemory + Drop, O: Write, T: Write, R: Write>(
+    alloc: Global,
+    arguments: &RunArguments,
+    file: &[u8],
+    input: &[u8],
+    symbols: &[u8],
+    output: &mut O,
+    files: &mut RunFiles<T, R>,
+) -> Result<Ended, Refused>
+    requires { refused_line symbols.now ≡ None }
+    ensures end { IsSavedRunEnd arguments.now file.now input.now symbols.now result
+        (O.contents output.old) (O.contents output.new) (T.contents files.old.trace) (T.contents files.new.trace)
+        (R.contents files.old.report) (R.contents files.new.report) }
+    ensures unbegun { CanRunSaved file.now symbols.now
+        ⊎ ((O.contents output.new ≡ O.contents output.old)
+        × (T.contents files.new.trace ≡ T.contents files.old.trace)
+        × (R.contents files.new.report ≡ R.contents files.old.report)) }
+{
+    let mut guest = restore_guest::<M>(alloc, file)?;
+    run_restored(
+        alloc, &mut guest, arguments, file, input, symbols, output, files,
+    )
+}
+
+/// Runs a guest that was read from a file. Returns how the run ended, or why it was refused.
+#[tactic(auto, using(crate::proofs::SavedRuns::broken, crate::proofs::SavedRuns::no_room))]
+fn run_restored<M: PagedMemory, O: Write, T: Write, R: Write>(
+    alloc: Global,
+    guest: &mut Debugged<M>,
+    arguments: &RunArguments,
+    file: &[u8],
+    input: &[u8],
+    symbols: &[u8],
+    output: &mut O,
+    files: &mut RunFiles<T, R>,
+) -> Result<Ended, Refused>
+    requires symbols { refused_line symbols.now ≡ None }
+    requires saved { IsSavedGuest file.now guest.old.guest }
+    ensures end { IsSavedRunEnd arguments.now file.now input.now symbols.now result
+        (O.contents output.old) (O.contents output.new) (T.contents files.old.trace) (T.contents files.new.trace)
+        (R.contents files.old.report) (R.contents files.new.report) }
+{
+    let mut kept = keep_none(alloc, arguments, guest)?;
+    Ok(run_to_report(
+        alloc, guest, arguments, input, symbols, &mut kept, output, files,
+    )?)
+}
+
+/// What is kept of a run of a guest that has no image, before its first turn. Refuses with `OutOfMemory`.
+#[tactic(auto, using(crate::proofs::Covering::nothing_counted, crate::proofs::Covering::no_test))]
+fn keep_none<M: Memory>(
+    alloc: Global,
+    arguments: &RunArguments,
+    guest: &Debugged<M>,
+) -> Result<Kept, Refused>
+    ensures kept { IfOk result (λ k. is_counted arguments.now.report ≡ true
+        → Covers (count_of guest.now.guest) k.counts k.segments.items []) }
+    ensures counts { IfOk result (λ k. AreRuns k.counts []) }
+    ensures refused { IfErr result (λ r. r ≡ refused OutOfMemory) }
+{
+    if !is_counted(&arguments.report) {
+        return Ok(Kept {
+            segments: Vec::new(alloc),
+            counts: Counts::none(alloc),
+        });
+    }
+    keep_counts(alloc, guest)
+}
+
+/// A number for each word of RAM, and no segment. Refuses with `OutOfMemory`.
+#[tactic(auto, using(crate::proofs::Covering::none_ran))]
+fn keep_counts<M: Memory>(alloc: Global, guest: &Debugged<M>) -> Result<Kept, Refused>
+    ensures kept { IfOk result (λ k. Covers (count_of guest.now.guest) k.counts k.segments.items []) }
+    ensures counts { IfOk result (λ k. AreRuns k.counts []) }
+    ensures refused { IfErr result (λ r. r ≡ refused OutOfMemory) }
+{
+    let pages = page_count(guest);
+    match Counts::new(alloc, PAGE_WORDS * pages) {
+        Ok(counts) => Ok(Kept {
+            segments: Vec::new(alloc),
+            counts,
+        }),
+        Err(_) => Err(Refused::from(Refusal::OutOfMemory)),
+    }
+}
+
+/// The number of pages of a guest's RAM.
+#[tactic(auto, using(crate::proofs::SavedRuns::few_pages))]
+fn page_count<M: Memory>(guest: &Debugged<M>) -> u32
+    ensures count { result ≡ count_of guest.now.guest }
+    ensures few { result ≤ 4096 }
+{
+    guest.memory().len() / PAGE_SIZE
+}
+
 /// Checks the symbols, loads the guest and runs it. Returns how the run ended, or why it was refused.
 fn run_image<M: PagedMemory + Drop, O: Write, T: Write, R: Write>(
     alloc: Global,
@@ -164,7 +323,7 @@ fn run_image<M: PagedMemory + Drop, O: Write, T: Write, R: Write>(
     output: &mut O,
     files: &mut RunFiles<T, R>,
 ) -> Result<Ended, Refused>
-    ensures end { IsRunEnd arguments.now image.now input.now symbols.now result
+    ensures end { IsImageRunEnd arguments.now image.now input.now symbols.now result
         (O.contents output.old) (O.contents output.new) (T.contents files.old.trace) (T.contents files.new.trace)
         (R.contents files.old.report) (R.contents files.new.report) }
     ensures unbegun { CanRun arguments.now image.now symbols.now
@@ -187,7 +346,7 @@ fn run_checked<M: PagedMemory + Drop, O: Write, T: Write, R: Write>(
     files: &mut RunFiles<T, R>,
 ) -> Result<Ended, Refused>
     requires { refused_line symbols.now ≡ None }
-    ensures end { IsRunEnd arguments.now image.now input.now symbols.now result
+    ensures end { IsImageRunEnd arguments.now image.now input.now symbols.now result
         (O.contents output.old) (O.contents output.new) (T.contents files.old.trace) (T.contents files.new.trace)
         (R.contents files.old.report) (R.contents files.new.report) }
     ensures unbegun { CanRun arguments.now image.now symbols.now
@@ -202,7 +361,8 @@ fn run_checked<M: PagedMemory + Drop, O: Write, T: Write, R: Write>(
 }
 
 /// Runs a guest that was loaded. Returns how the run ended, or why it was refused.
-fn run_loaded<M: Memory, O: Write, T: Write, R: Write>(
+#[tactic(auto, using(crate::proofs::SavedRuns::broken))]
+fn run_loaded<M: PagedMemory, O: Write, T: Write, R: Write>(
     alloc: Global,
     guest: &mut Debugged<M>,
     arguments: &RunArguments,
@@ -215,12 +375,14 @@ fn run_loaded<M: Memory, O: Write, T: Write, R: Write>(
     requires begun { CanRun arguments.now image.now symbols.now }
     requires guest { IfOk (image_of arguments.now.guest.raw image.now) (λ i.
         guest.old.guest ≡ guest_of arguments.now.guest.harts arguments.now.guest.pages i.0 i.1) }
-    ensures end { IsRunEnd arguments.now image.now input.now symbols.now result
+    ensures end { IsImageRunEnd arguments.now image.now input.now symbols.now result
         (O.contents output.old) (O.contents output.new) (T.contents files.old.trace) (T.contents files.new.trace)
         (R.contents files.old.report) (R.contents files.new.report) }
 {
     let mut kept = keep(alloc, arguments, image)?;
-    Ok(run_to_report(guest, arguments, input, symbols, &mut kept, output, files)?)
+    Ok(run_to_report(
+        alloc, guest, arguments, input, symbols, &mut kept, output, files,
+    )?)
 }
 
 /// What is kept of a run for the report that is asked for, before its first turn. Refuses with `OutOfMemory`.
@@ -277,14 +439,16 @@ fn wants_counts(report: Report) -> bool
     ensures { result ≡ wants_counts report.entry }
 {
     match report {
-        Report::Signature(_) => false,
+        Report::Signature(_) | Report::SavedGuest => false,
         Report::Coverage | Report::Profile { .. } => true,
     }
 }
 
-/// Runs a guest as the arguments ask for, and writes the report, if it has one. `LinkFault` if a write fails.
+/// Runs a guest as the arguments ask for, and writes the report, if it has one. `LinkFault` if a
+/// write fails, `OutOfMemory` only if the guest is saved.
 #[tactic(auto, using(crate::proofs::Covering::report_is))]
-fn run_to_report<M: Memory, O: Write, T: Write, R: Write>(
+fn run_to_report<M: PagedMemory, O: Write, T: Write, R: Write>(
+    alloc: Global,
     guest: &mut Debugged<M>,
     arguments: &RunArguments,
     input: &[u8],
@@ -292,32 +456,39 @@ fn run_to_report<M: Memory, O: Write, T: Write, R: Write>(
     kept: &mut Kept,
     output: &mut O,
     files: &mut RunFiles<T, R>,
-) -> Result<Ended, LinkFault>
+) -> Result<Ended, SaveFault>
     requires counts { AreRuns kept.old.counts [] }
     ensures run { IfOk result (λ end. HasRun (run_with arguments.now.seed arguments.now.stop_at_fault (traced_of arguments.now.trace)
         arguments.now.steps input.now guest.old.guest) end guest.old guest.new
         (O.contents output.old) (O.contents output.new)
         (T.contents files.old.trace) (T.contents files.new.trace)) }
-    ensures report { OnOk result ((pieces : List Piece)
+    ensures report { OnOk result ((pages : ℕ) (pieces : List Piece)
         → (is_counted arguments.now.report ≡ true
-        → Covers arguments.now.guest.pages kept.old.counts kept.old.segments.items pieces)
+        → Covers pages kept.old.counts kept.old.segments.items pieces)
         → Appends (R.contents files.old.report) (R.contents files.new.report)
-        (report_text arguments.now.report arguments.now.guest.pages pieces symbols.now
+        (report_text arguments.now.report pages pieces symbols.now
         (run_with arguments.now.seed arguments.now.stop_at_fault (traced_of arguments.now.trace) arguments.now.steps input.now
         guest.old.guest))) }
     ensures some { OnErr result (Writes (run_with arguments.now.seed arguments.now.stop_at_fault (traced_of arguments.now.trace)
         arguments.now.steps input.now guest.old.guest) arguments.now.trace arguments.now.report) }
+    ensures fault { IfErr result (IsFaultOf arguments.now.report) }
 {
-    let ended = run_to_end(
+    let ended = match run_to_end(
         guest,
         arguments,
         input,
         &mut kept.counts,
         output,
         &mut files.trace,
-    )?;
-    write_report(guest, &arguments.report, symbols, kept, &mut files.report)?;
-    Ok(ended)
+    ) {
+        Ok(ended) => ended,
+        Err(_) => return Err(SaveFault::LinkFault),
+    };
+    let report = &mut files.report;
+    match write_report(alloc, guest, &arguments.report, symbols, kept, report) {
+        Ok(()) => Ok(ended),
+        Err(fault) => Err(fault),
+    }
 }
 
 /// Runs a guest as the arguments ask for, and flushes its trace, if it has one. `LinkFault` if a write fails.

@@ -17,7 +17,7 @@ use Rattle.rvm_arguments.specs.declared.arguments.MoveArguments.{MoveArguments}
 use Rattle.rvm_arguments.specs.declared.arguments.OrdersArguments.{OrdersArguments}
 use Rattle.rvm_arguments.specs.declared.arguments.ReplayArguments.{ReplayArguments}
 use Rattle.rvm_arguments.specs.declared.arguments.Report.{Report}
-use Rattle.rvm_arguments.specs.declared.arguments.Report.TheVariants.{Coverage, Profile, Signature}
+use Rattle.rvm_arguments.specs.declared.arguments.Report.TheVariants.{Coverage, Profile, SavedGuest, Signature}
 use Rattle.rvm_arguments.specs.declared.arguments.ReportArguments.{ReportArguments}
 use Rattle.rvm_arguments.specs.declared.arguments.RunArguments.{RunArguments}
 use Rattle.rvm_arguments.specs.declared.arguments.ScriptArguments.{ScriptArguments}
@@ -96,19 +96,23 @@ pub record IsSignature (pages : ℕ) (given : Option (List Text)) (file : Text) 
 abbrev pub IsReportTo : (pages : ℕ) → List Row → (file : Text) → Report → Type 0
 IsReportTo pages rows file (Signature range) =
     IsSignature pages (all_of (codes "signature") rows) file range × (first_of (codes "coverage") rows ≡ None)
-    × (first_of (codes "profile") rows ≡ None)
+    × (first_of (codes "profile") rows ≡ None) × (first_of (codes "save") rows ≡ None)
 IsReportTo pages rows file Coverage =
     (first_of (codes "coverage") rows ≡ Some file) × (all_of (codes "signature") rows ≡ None)
-    × (first_of (codes "profile") rows ≡ None)
+    × (first_of (codes "profile") rows ≡ None) × (first_of (codes "save") rows ≡ None)
 IsReportTo pages rows file (Profile symbols) =
     (first_of (codes "profile") rows ≡ Some file) × (first_of (codes "symbols") rows ≡ Some symbols.now)
     × (all_of (codes "signature") rows ≡ None) × (first_of (codes "coverage") rows ≡ None)
+    × (first_of (codes "save") rows ≡ None)
+IsReportTo pages rows file SavedGuest =
+    (first_of (codes "save") rows ≡ Some file) × (all_of (codes "signature") rows ≡ None)
+    × (first_of (codes "coverage") rows ≡ None) × (first_of (codes "profile") rows ≡ None)
 
 -- there is a report if and only if one was asked for
 abbrev pub IsReport : (pages : ℕ) → List Row → Option ReportArguments → Type 0
 IsReport pages rows None =
     (all_of (codes "signature") rows ≡ None) × (first_of (codes "coverage") rows ≡ None)
-    × (first_of (codes "profile") rows ≡ None)
+    × (first_of (codes "profile") rows ≡ None) × (first_of (codes "save") rows ≡ None)
 IsReport pages rows (Some r) = IsReportTo pages rows r.file.now r.report
 
 -- a guest, its input, its turns, what the status tells, what is looked at while it runs, what is reported of it, and the

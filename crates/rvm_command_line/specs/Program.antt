@@ -98,7 +98,9 @@ with_profile command = with_rule (with_rule command (option (codes "profile"))) 
 -- a command that takes the words of a report
 abbrev pub with_report : App → App
 with_report command =
-    with_profile (with_rule (with_rule command signature) (option (codes "coverage")))
+    with_rule
+    (with_profile (with_rule (with_rule command signature) (option (codes "coverage"))))
+    (option (codes "save"))
 
 -- a command that takes the words that say what is looked at while the guest runs
 abbrev pub with_watch : App → App

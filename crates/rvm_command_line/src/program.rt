@@ -32,7 +32,9 @@ ADDR on. ADDR and LEN are decimal, or hexadecimal after 0x, and multiples of 4; 
 With --coverage the file has, after the last turn, the lines of `rvmove dis`, each after the number of steps that
 ran its instruction. With --profile the file has, after the last turn, a line for each line of the file of
 --symbols, which is what `nm -n` prints: how many steps the symbol took, and its name; `sort -rn` puts the
-costliest first. --signature, --coverage and --profile exclude one another.
+costliest first. With --save the file has the guest as it is after the last turn; a later run whose IMAGE is
+that file goes on from there, with the harts and pages of the guest, whatever --harts and --pages say.
+--signature, --coverage, --profile and --save exclude one another.
 With --order a generator with the seed S draws the hart of each turn; the same S gives the same run.
 With --orders the guest is run by the seeds 0 to N - 1, each time from its image, up to the first run whose
 verdict is not 0. Standard output has what the guest sent in that run, standard error `order S` and how it
@@ -555,7 +557,17 @@ fn report_command<'a>(command: Made<'a>, alloc: Global) -> Made<'a>
     ensures { (made : App) → IsMade command.entry made → IsMade result (with_report made) }
 {
     let command = with_arg(command, signature_option(alloc));
-    profile_command(with_arg(command, coverage_option(alloc)), alloc)
+    let command = with_arg(command, coverage_option(alloc));
+    with_arg(profile_command(command, alloc), save_option(alloc))
+}
+
+/// The option `--save`: the file that gets the guest once the run has ended.
+fn save_option<'a>(alloc: Global) -> Arg<'a>
+    ensures rule { rule_of result ≡ option (codes "save") }
+    ensures local { result.global ≡ false }
+{
+    let help = "The file that gets the guest at the end; as IMAGE it is run from there on";
+    option(alloc, "save", "FILE", help)
 }
 
 /// Adds to a command the words of a profile.

@@ -1,6 +1,6 @@
 //! Reads the words of a command line as arguments.
 
-ghost use Rattle.std.specs.Prelude.{◌≡◌, ◌≤◌, ◌&&◌, nat_le, true, if◌then◌else◌, [], ◌∷◌, Some, IfErr, IfOk, IfSome, OnOk, None, codes, map, option_map};
+ghost use Rattle.std.specs.Prelude.{◌≡◌, ◌≤◌, ◌&&◌, ℕ, nat_le, true, if◌then◌else◌, [], ◌∷◌, Some, IfErr, IfOk, IfSome, OnOk, None, codes, map, option_map};
 ghost use Rattle.clap.specs.Faults.{fault_of};
 ghost use Rattle.clap.specs.Kinds.{HasKind};
 ghost use Rattle.clap.specs.Matches.{found_of};
@@ -232,11 +232,11 @@ fn check_alone(run: &ArgMatches, pages: u32) -> Result<(), &'static str>
         return Err("--order and --orders exclude each other");
     }
     let None = read_trace(run)? else {
-        return Err("--orders excludes --trace, --signature, --coverage and --profile");
+        return Err("--orders excludes --trace, --signature, --coverage, --profile and --save");
     };
     match read_report(run, pages)? {
         None => Ok(()),
-        Some(_) => Err("--orders excludes --trace, --signature, --coverage and --profile"),
+        Some(_) => Err("--orders excludes --trace, --signature, --coverage, --profile and --save"),
     }
 }
 
@@ -246,6 +246,57 @@ fn read_report<'a>(
     run: &ArgMatches<'a>,
     pages: u32,
 ) -> Result<Option<ReportArguments<'a>>, &'static str>
+    ensures { IfOk result (IsReport pages (rows_of (found_of run.now))) }
+{
+    match text(run, "save") {
+        None => read_listing(run, pages),
+        Some(file) => read_saved(run, file),
+    }
+}
+
+/// The guest that is saved to `file`. Fails with a text if the run reads that file, or writes its trace there, or if
+/// another report is asked for.
+fn read_saved<'a>(
+    run: &ArgMatches<'a>,
+    file: &'a str,
+) -> Result<Option<ReportArguments<'a>>, &'static str>
+    requires { first_of (codes "save") (rows_of (found_of run.now)) ≡ Some file.now }
+    ensures { (pages : ℕ) → IfOk result (IsReport pages (rows_of (found_of run.now))) }
+{
+    check_unlisted(run)?;
+    if is_taken(run, file) {
+        return Err("the file of --save is one that is read, or that of --trace");
+    }
+    let report = Report::SavedGuest;
+    Ok(Some(ReportArguments { file, report }))
+}
+
+/// Fails with a text if a report other than a saved guest is asked for, or if symbols are given.
+fn check_unlisted(run: &ArgMatches) -> Result<(), &'static str>
+    ensures signature { OnOk result (all_of (codes "signature") (rows_of (found_of run.now)) ≡ None) }
+    ensures coverage { OnOk result (first_of (codes "coverage") (rows_of (found_of run.now)) ≡ None) }
+    ensures profile { OnOk result (first_of (codes "profile") (rows_of (found_of run.now)) ≡ None) }
+{
+    match (
+        texts(run, "signature"),
+        text(run, "coverage"),
+        text(run, "profile"),
+    ) {
+        (None, None, None) => match text(run, "symbols") {
+            None => Ok(()),
+            Some(_) => Err("--symbols wants --profile"),
+        },
+        _ => Err("--save excludes --signature, --coverage and --profile"),
+    }
+}
+
+/// What is reported of a run with this many pages of RAM whose guest is not saved. Fails with a text as `read_report`
+/// does.
+fn read_listing<'a>(
+    run: &ArgMatches<'a>,
+    pages: u32,
+) -> Result<Option<ReportArguments<'a>>, &'static str>
+    requires { first_of (codes "save") (rows_of (found_of run.now)) ≡ None }
     ensures { IfOk result (IsReport pages (rows_of (found_of run.now))) }
 {
     match (
@@ -271,7 +322,7 @@ fn read_report<'a>(
             let report = Report::Profile { symbols };
             Ok(Some(ReportArguments { file, report }))
         }
-        _ => Err("--signature, --coverage and --profile exclude one another"),
+        _ => Err("--signature, --coverage, --profile and --save exclude one another"),
     }
 }
 

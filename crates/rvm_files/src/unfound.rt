@@ -20,6 +20,8 @@ pub(crate) enum Unfound {
     Symbols,
     /// The journals of hosts that have no order.
     Journals,
+    /// The bytes of a saved guest.
+    SavedGuest,
     /// A line of standard input.
     InputLine,
     /// A line of the session of a replay.
@@ -56,6 +58,9 @@ impl Unfound {
         if report.has(Refusal::NoOrder) {
             return unordered(arguments);
         }
+        if report.is(Refusal::BadFrame) || report.is(Refusal::Truncated) {
+            return unrestored(arguments);
+        }
         Unfound::Cause
     }
 
@@ -72,6 +77,8 @@ impl Unfound {
             Unfound::Symbols =>
                 "the symbols: this is no line that nm -n prints, or its address is below the one before it",
             Unfound::Journals => "no order: give the journals of all hosts, each to its last line",
+            Unfound::SavedGuest =>
+                "IMAGE: if it begins with a byte 0, it is read as a saved guest, and was cut off or changed; plain bytes want --raw",
             Unfound::InputLine => "standard input: this is no line of a script (docs/SCRIPTS.md)",
             Unfound::SessionLine => "the session: this is no line of one (docs/SCRIPTS.md)",
             Unfound::LongInput => "standard input: this has more than 67108864 bytes",
@@ -111,6 +118,14 @@ fn too_long(arguments: &Arguments) -> Unfound {
 fn unordered(arguments: &Arguments) -> Unfound {
     match arguments {
         Arguments::AuditJournals(_) => Unfound::Journals,
+        _ => Unfound::Cause,
+    }
+}
+
+/// What ends too early, or has a frame that may not stand there.
+fn unrestored(arguments: &Arguments) -> Unfound {
+    match arguments {
+        Arguments::Run(_) => Unfound::SavedGuest,
         _ => Unfound::Cause,
     }
 }
