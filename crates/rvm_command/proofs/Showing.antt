@@ -17,8 +17,7 @@ use Rattle.rvm_board.specs.declared.snapshot.Snapshot.{Snapshot}
 use Rattle.rvm_board.specs.Board.{hart_at, new_hart}
 use Rattle.rvm_board.specs.Guest.{Guest}
 use Rattle.rvm_board.specs.Parts.{CanBeHeld, part_of}
-use Rattle.rvm_board.specs.Restoring.{AreHeld, CanBeRestored}
-use Rattle.rvm_board.specs.Snapshot.{state_in}
+use Rattle.rvm_board.specs.Restoring.{AreHeld}
 use Rattle.rvm_board.specs.State.{State, guest_of, numbered, parts_of, state_of}
 use Rattle.rvm_debug.proofs.Running.{appends_more, appends_none}
 use Rattle.rvm_debug.specs.Answers.{reply_text}
@@ -200,9 +199,3 @@ csrs_written h s (Ok x) before now mip csrs lt same pending written = λ g is.
     (ap (λ (m : Interrupts). csrs_text m csrs) (pending g is)
     ∙ ap (λ (c : CsrState). csrs_text (mip_of h g.board.shared.devices) c) (same g is)
     ∙ sym (chosen (nat_lt h (length g.board.harts)) true (csrs_text (mip_of h g.board.shared.devices) (hart_at h g.board).csrs) (reply_text None (Refused BadHart)) there)) written
-
--- THE ANSWERS OF A SESSION
-
-pub snapshot_is : (g : Guest) (s : Snapshot) → state_in s ≡ state_of g → guest_of g.board.shared.bytes (state_of g) ≡ g
-    → CanBeRestored (length g.board.shared.bytes) (state_in s) → IsSnapshotOf g s
-snapshot_is g s state whole held = record { state = state; whole = whole; held = held }
