@@ -1,5 +1,5 @@
 -- A run takes at most one byte of its input in each turn, so bytes that no turn can take change nothing.
-use Rattle.std.proofs.Common.{◌≡◌, ◌∙◌, ◌+◌, ◌%◌, ◌==◌, ◌<◌, ◌≤◌, ◌⊎◌, Bool, ℕ, zero, suc, List, [], ◌∷◌, ◌++◌, Option, Result, Ok, Err, length, take, drop, get_or, refl, sym, ap, ap₂, subst, inl, inr, arith}
+use Rattle.std.proofs.Common.{◌≡◌, ◌∙◌, ◌+◌, ◌%◌, ◌==◌, ◌<◌, ◌≤◌, ◌⊎◌, Bool, false, true, ℕ, zero, suc, List, [], ◌∷◌, ◌++◌, Option, Result, Ok, Err, length, take, drop, get_or, refl, sym, ap, ap₂, subst, inl, inr, arith}
 use Rattle.std.proofs.lemmas.List.{take-take}
 use Rattle.std.specs.List.{concat}
 use Rattle.std.specs.Io.KnownBytes.{Appends}
@@ -146,18 +146,16 @@ image_ends_so a file begun input symbols (Err r) before after trace_before trace
 saved_ends_so : (a : RunArguments) (file begun input symbols : List ℕ) (end : Result Ended Refused) (before after trace_before trace_after report_before report_after : Option (List ℕ))
     → begun ≡ take a.steps input → IsSavedRunEnd a file begun symbols end before after trace_before trace_after report_before report_after
     → IsSavedRunEnd a file input symbols end before after trace_before trace_after report_before report_after
-saved_ends_so a file begun input symbols (Ok ended) before after trace_before trace_after report_before report_after is (good, (g, saved, came)) =
+saved_ends_so a file begun input symbols (Ok ended) before after trace_before trace_after report_before report_after is (good, (g, saved, ends, out, traced, reports)) =
     let same = same_watched a.seed a.stop_at_fault (traced_of a.trace) a.steps begun input g is in (
       good,
       (
         g,
         saved,
-        (
-          came.0 ∙ ap (λ (r : Watched). r.ended) same,
-          subst (Appends before after) (ap (λ (r : Watched). r.written) same) came.1,
-          subst (λ (l : List (List ℕ)). Appends trace_before trace_after (concat l)) (ap (λ (r : Watched). r.lines) same) came.2,
-          subst (λ (r : Watched). Appends report_before report_after (report_text a.report (count_of g) [] symbols r)) same came.3,
-        ),
+        ends ∙ ap (λ (r : Watched). r.ended) same,
+        subst (Appends before after) (ap (λ (r : Watched). r.written) same) out,
+        subst (λ (l : List (List ℕ)). Appends trace_before trace_after (concat l)) (ap (λ (r : Watched). r.lines) same) traced,
+        subst (λ (r : Watched). Appends report_before report_after (report_text a.report (count_of g) [] symbols r)) same reports,
       ),
     )
 saved_ends_so a file begun input symbols (Err r) before after trace_before trace_after report_before report_after is (inl refused) = inl refused
