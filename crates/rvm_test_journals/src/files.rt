@@ -251,8 +251,7 @@ fn header_of(host: u8, case: Case) -> Header {
 /// The host that a host met in a case, if it tells one.
 fn met_by(host: u8, case: Case) -> Option<Meeting> {
     let (met, process, world) = match case {
-        Case::Met if host == 2 => (0, 7, 12),
-        Case::Met => (host + 1, 7, 12),
+        Case::Met => (next_host(host), 7, 12),
         Case::OtherProcess if host == 0 => (1, 8, 12),
         Case::MetOtherWorld if host == 2 => (0, 7, 13),
         _ => return None,
@@ -262,6 +261,15 @@ fn met_by(host: u8, case: Case) -> Option<Meeting> {
         process,
         world,
     })
+}
+
+/// The host after a host; after the last one, host A.
+fn next_host(host: u8) -> u8 {
+    match host {
+        0 => 1,
+        1 => 2,
+        _ => 0,
+    }
 }
 
 /// How many hosts the header of a host tells.
