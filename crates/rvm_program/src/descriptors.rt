@@ -26,8 +26,18 @@ pub fn take_descriptors<R: Files>(rt: &R) -> Result<Descriptors<R::File>, Refusa
     ensures refused { IfErr result IsFileRefusal }
 {
     Ok(Descriptors {
-        _first: File::open(rt, NULL_DEVICE).map_err(refusal_of)?,
-        _second: File::open(rt, NULL_DEVICE).map_err(refusal_of)?,
-        _third: File::open(rt, NULL_DEVICE).map_err(refusal_of)?,
+        _first: open_null_device(rt)?,
+        _second: open_null_device(rt)?,
+        _third: open_null_device(rt)?,
     })
+}
+
+/// Opens the null device for reading.
+fn open_null_device<R: Files>(rt: &R) -> Result<R::File, Refusal>
+    ensures refused { IfErr result IsFileRefusal }
+{
+    match File::open(rt, NULL_DEVICE) {
+        Ok(file) => Ok(file),
+        Err(error) => Err(refusal_of(error)),
+    }
 }
