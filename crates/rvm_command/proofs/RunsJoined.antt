@@ -27,7 +27,7 @@ unfolding after
 after_harts [] g = refl
 after_harts (e ∷ es) g = after_harts es (answered e g).guest ∙ same_harts e g
 
--- ---- nothing waits behind drains
+-- ---- nothing waits after drains
 
 drained_none : (g : Guest) → length g.board.shared.devices.output ≡ 0 → drains (after (drains g) g).guest ≡ []
 unfolding after
@@ -59,7 +59,7 @@ drained g = drained_by (length g.board.shared.devices.output) g (omega arith)
 abbrev taken_at : (t : ℕ) → Guest → List BoardEvent
 taken_at t g = if t % 64 == 63 then drains g else []
 
--- the rest of a run behind the step of turn t
+-- the rest of a run after the step of turn t
 abbrev behind : (n t : ℕ) → Answered → Run
 behind n t a =
     unless_halted a.reply a.guest

@@ -46,7 +46,7 @@ pub fn save_guest<M: PagedMemory, W: Write>(
     Ok(())
 }
 
-/// Writes Hello, and the offer of a guest of so many pages and harts.
+/// Writes Hello, and the offer of a guest with `pages` pages and `harts` harts.
 fn put_opening<W: Write>(pages: u16, harts: u8, writer: &mut W) -> Result<(), SaveFault>
     requires some { 0 < pages }
     requires few { pages ≤ 4096 }
@@ -66,7 +66,7 @@ fn put_opening<W: Write>(pages: u16, harts: u8, writer: &mut W) -> Result<(), Sa
     )
 }
 
-/// Writes a copy of each page of a guest that has so many.
+/// Writes a copy of each page of a guest with `pages` pages.
 fn put_pages<M: PagedMemory, W: Write>(
     alloc: Global,
     guest: &Debugged<M>,
@@ -117,7 +117,7 @@ fn page_bytes(alloc: Global, page: &[u8; PAGE_SIZE as usize]) -> Result<PageByte
     PageBytes::from_slice(alloc, page.as_slice())
 }
 
-/// Writes the end of the round in which so many pages were copied.
+/// Writes the end of the round in which `pages` pages were copied.
 fn put_end<W: Write>(pages: u16, writer: &mut W) -> Result<(), SaveFault>
     ensures { OnOk result (Puts (W.contents writer.old) (W.contents writer.new)
         (frames.RoundEnd 1 1 pages 0 0 ∷ [])) }
@@ -134,7 +134,7 @@ fn put_end<W: Write>(pages: u16, writer: &mut W) -> Result<(), SaveFault>
     )
 }
 
-/// Writes the state of a guest of so many pages, with the number of each page's copy.
+/// Writes the state of a guest with `pages` pages, and the number of each page's copy.
 fn put_state<M: PagedMemory, W: Write>(
     alloc: Global,
     guest: &Debugged<M>,
@@ -159,7 +159,7 @@ fn put_state<M: PagedMemory, W: Write>(
     )
 }
 
-/// The numbers of the copies of so many pages: 1, 2 and so on.
+/// The numbers of the copies of `pages` pages: 1, 2 and so on.
 fn numbers(alloc: Global, pages: u16) -> Result<Vec<u32>, AllocError>
     ensures { IfOk result (λ numbers. numbers.items ≡ listed suc 0 pages) }
 {

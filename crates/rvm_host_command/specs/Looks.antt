@@ -15,7 +15,7 @@ use Rattle.rvm_message.specs.Replies.{reply_of}
 use Rattle.rvm_refusal.specs.declared.refusal.Refusal.TheVariants.{BadToken}
 use Rattle.rvm_refusal.specs.Refusal.{text_of}
 
--- a line without this letter of a host and the space behind it, if it begins with them
+-- a line that begins with this letter of a host and a space, without both; each other line as it is
 abbrev pub unlettered : (letter : ℕ) → List ℕ → List ℕ
 unlettered letter (b ∷ c ∷ bytes) = if b == letter && c == 32 then bytes else b ∷ c ∷ bytes
 unlettered letter bytes = bytes

@@ -15,7 +15,7 @@ use rvm_message::{HostRefusal, HostReply};
 use rvm_refusal::{LinkFault, Refusal};
 use std::io::Write;
 
-/// A line without this letter of a host and the space behind it, if it begins with them.
+/// A line that begins with this letter of a host and a space, without both; each other line as it is.
 pub(crate) fn unlettered(letter: u8, line: &[u8]) -> &[u8]
     ensures { result.now ≡ unlettered letter line.now }
 {
