@@ -7,6 +7,7 @@ pub mod Turning
 pub mod Going
 pub mod Shares
 pub mod Striding
+pub mod Rows
 pub mod Running
 pub mod Marking
 pub mod Retirings

@@ -120,7 +120,7 @@ fn rows_in_turn<M: Memory, const LOOP: u8>(
     let mut hart = first;
     let mut left = count;
     while left >= number - hart {
-        if let Some(next) = row_of_harts::<M, LOOP>(decoder, harts, bus, hart, number) {
+        if let Some(next) = row_of_harts::<M, LOOP>(decoder, harts, bus, hart) {
             left -= next - hart;
             return Rounds { left, hart: next };
         }
@@ -130,39 +130,35 @@ fn rows_in_turn<M: Memory, const LOOP: u8>(
     Rounds { left, hart }
 }
 
-/// Runs one instruction of the path of each hart from `first` to the one before `end`. Ends early before one that
-/// leaves the path, and returns the hart of this one. No counter rises.
+/// Runs one instruction of the path of each hart from `first` to the last. Ends early before one that leaves the path, and
+/// returns the hart of this one. No counter rises.
 #[inline(always)]
 fn row_of_harts<M: Memory, const LOOP: u8>(
     decoder: Decoder,
     harts: &mut [Hart],
     bus: &mut Bus<M>,
     first: u32,
-    end: u32,
 ) -> Option<u32>
-    requires first { first < end }
-    requires end { end ≤ length harts.old }
+    requires first { first < length harts.old }
     requires board { IsBoard (board_of harts.old bus.old).plain }
     ensures first { IfSome result (λ next. first ≤ next) }
-    ensures end { IfSome result (λ next. next < end) }
+    ensures end { IfSome result (λ next. next < length harts.old) }
     ensures size { length harts.new ≡ length harts.old }
     ensures board { IsBoard (board_of harts.new bus.new).plain }
     ensures some { IfSome result
         (λ next. GoOn first next (board_of harts.old bus.old) (board_of harts.new bus.new)) }
     ensures all { IfNone result
-        (GoOn first end (board_of harts.old bus.old) (board_of harts.new bus.new)) }
+        (GoOn first (length harts.old) (board_of harts.old bus.old) (board_of harts.new bus.new)) }
 {
-    let mut hart = first as usize;
-    loop {
-        let running = &mut harts[hart];
-        if !running.row_straight::<M, LOOP>(decoder, bus) {
-            return Some(hart as u32);
+    let (_, rest) = harts.split_at_mut(first as usize);
+    let mut next = first;
+    for hart in rest.iter_mut() {
+        if !hart.row_straight::<M, LOOP>(decoder, bus) {
+            return Some(next);
         }
-        hart += 1;
-        if hart == end as usize {
-            return None;
-        }
+        next += 1;
     }
+    None
 }
 
 /// Raises the counters of each hart by its number of turns, if `made` turns were made and hart `first` had the first,

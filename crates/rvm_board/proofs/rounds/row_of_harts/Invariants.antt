@@ -1,18 +1,12 @@
-use Rattle.std.proofs.Common.{◌≡◌, ◌-◌, ◌<◌, ◌≤◌, length}
-use Rattle.rvm_board.specs.Board.{IsBoard}
-use Rattle.rvm_board.specs.Rounds.{GoOn, board_of}
+use Rattle.std.proofs.Common.{◌≡◌, ◌+◌, take}
+use Rattle.rvm_board.specs.Rounds.{board_of}
+use Rattle.rvm_board.proofs.Rows.{Row}
 use Rattle.rvm_board.proofs.rounds.row_of_harts.Given as goal
 
 -- the turns of the harts so far
-abbrev pub invariant-loop-first : goal.invariant-loop-first
-invariant-loop-first g l =
+abbrev pub invariant-loop-hart : goal.invariant-loop-hart
+invariant-loop-hart g l =
     record {
-      first : l.first ≤ l.hart;
-      end : l.hart < l.end;
-      size : length l.harts ≡ length l.fn.harts;
-      board : IsBoard (board_of l.harts l.bus).plain;
-      turns : GoOn l.first l.hart (board_of l.fn.harts l.fn.bus) (board_of l.harts l.bus);
+      place : l.next ≡ l.first + l.hart-index;
+      row : Row l.first l.next (board_of l.fn.harts l.fn.bus) (take l.first l.fn.harts) l.rest l.bus;
     }
-
-abbrev pub decreases-loop-first : goal.decreases-loop-first
-decreases-loop-first g l = l.end - l.hart

@@ -15,12 +15,10 @@ pub loop-hart-preserved : goal.loop-hart-preserved
 loop-hart-preserved g c =
     let so = c.loop-hart.invariant in
     let harts : ℕ = length c.loop-hart.harts in
-    let all : GoOn c.loop-hart.hart harts (board_of c.loop-hart.harts c.loop-hart.bus) (board_of c.row_of_harts.new.harts c.row_of_harts.new.bus) =
-    subst (λ i. GoOn c.loop-hart.hart i (board_of c.loop-hart.harts c.loop-hart.bus) (board_of c.row_of_harts.new.harts c.row_of_harts.new.bus)) (sym so.turns.size) c.in_default.ensures.all in
     record {
       hart = omega (arith, so.hart, c.row_of_harts.ensures.size);
       turns = after_row c.args.count c.args.first c.loop-hart.left (c.loop-hart.left - (length c.args.harts.now - c.loop-hart.hart)) c.loop-hart.hart harts 0 (board_of c.args.harts.now c.args.bus.now) (board_of c.loop-hart.harts c.loop-hart.bus) (board_of c.row_of_harts.new.harts c.row_of_harts.new.bus)
-          all so.turns so.hart (omega (arith, so.turns.size, c.loop-hart-test.true)) (ap (λ l. c.loop-hart.left - (l - c.loop-hart.hart)) (sym so.turns.size)) (sym (mod_self harts));
+          c.in_default.ensures.all so.turns so.hart (omega (arith, so.turns.size, c.loop-hart-test.true)) (ap (λ l. c.loop-hart.left - (l - c.loop-hart.hart)) (sym so.turns.size)) (sym (mod_self harts));
     }
 
 -- an instruction of the hart whose turn it is leaves the path
