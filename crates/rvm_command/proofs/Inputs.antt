@@ -14,7 +14,8 @@ use Rattle.rvm_board.specs.Events.{Answered, answered}
 use Rattle.rvm_command.specs.declared.refused.Refused.{Refused}
 use Rattle.rvm_command.specs.declared.run.Ended.{Ended}
 use Rattle.rvm_command.specs.Command.{guest_of, image_of}
-use Rattle.rvm_command.specs.Ends.{IsImageRunEnd, IsRunEnd, IsRunEndOf, IsSavedRunEnd, Writes, is_saved}
+use Rattle.rvm_command.specs.Saved.{is_saved}
+use Rattle.rvm_command.specs.Ends.{IsImageRunEnd, IsRunEnd, IsRunEndOf, IsSavedRunEnd, Writes}
 use Rattle.rvm_guest.specs.Pages.{count_of}
 use Rattle.rvm_command.specs.Reports.{report_text}
 use Rattle.rvm_command.specs.Taken.{steps_in}
@@ -176,4 +177,4 @@ pub ends_so : (a : RunArguments) (file begun input symbols : List ℕ) (end : Re
     → begun ≡ take a.steps input → IsRunEnd a file begun symbols end before after trace_before trace_after report_before report_after
     → IsRunEnd a file input symbols end before after trace_before trace_after report_before report_after
 ends_so a file begun input symbols end before after trace_before trace_after report_before report_after is e =
-    ends_as (is_saved a file) a file begun input symbols end before after trace_before trace_after report_before report_after is e
+    ends_as (is_saved a.guest.raw file) a file begun input symbols end before after trace_before trace_after report_before report_after is e

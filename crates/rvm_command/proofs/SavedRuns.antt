@@ -8,7 +8,7 @@ use Rattle.rvm_command.specs.Counting.{Covers}
 use Rattle.rvm_elf.specs.Load.{pieces_fit}
 use Rattle.rvm_command.specs.declared.refused.Refused.{Refused}
 use Rattle.rvm_command.specs.declared.run.Ended.{Ended}
-use Rattle.rvm_command.specs.Ends.{CanBegin, CanBeginAs, CanRun, CanRunSaved, IsBroken, IsFaultOf, IsImageRunEnd, IsRunEnd, IsRunEndOf, IsSavedRefusal, IsSavedRunEnd, is_saved}
+use Rattle.rvm_command.specs.Ends.{CanBegin, CanBeginAs, CanRun, CanRunSaved, IsBroken, IsFaultOf, IsImageRunEnd, IsRunEnd, IsRunEndOf, IsSavedRefusal, IsSavedRunEnd}
 use Rattle.rvm_command.specs.Refusals.{refused}
 use Rattle.rvm_refusal.specs.declared.refusal.Refusal.TheVariants.{OutOfMemory}
 use Rattle.rvm_command.specs.declared.saved_fault.RestoreFault.{RestoreFault}
@@ -17,10 +17,10 @@ use Rattle.rvm_command.specs.declared.saved_fault.SaveFault.{SaveFault}
 use Rattle.rvm_command.specs.declared.saved_fault.SaveFault.TheVariants as save
 use Rattle.rvm_command.specs.Restoring.{IsRefused}
 use Rattle.rvm_command.specs.SavedRefusals.{restore_refusal, save_refusal}
-use Rattle.rvm_command.specs.Saved.{IsSavedGuest}
+use Rattle.rvm_command.specs.Saved.{IsSavedGuest, is_saved}
 
 pub ended_saved : (a : RunArguments) (file input symbols : List ℕ) (r : Result Ended Refused)
-    (before after trace_before trace_after report_before report_after : Option (List ℕ)) → is_saved a file ≡ true
+    (before after trace_before trace_after report_before report_after : Option (List ℕ)) → is_saved a.guest.raw file ≡ true
     → IsSavedRunEnd a file input symbols r before after trace_before trace_after report_before report_after
     → IsRunEnd a file input symbols r before after trace_before trace_after report_before report_after
 ended_saved a file input symbols r before after trace_before trace_after report_before report_after is e =
@@ -28,19 +28,19 @@ ended_saved a file input symbols r before after trace_before trace_after report_
     (sym is) e
 
 pub ended_image : (a : RunArguments) (file input symbols : List ℕ) (r : Result Ended Refused)
-    (before after trace_before trace_after report_before report_after : Option (List ℕ)) → is_saved a file ≡ false
+    (before after trace_before trace_after report_before report_after : Option (List ℕ)) → is_saved a.guest.raw file ≡ false
     → IsImageRunEnd a file input symbols r before after trace_before trace_after report_before report_after
     → IsRunEnd a file input symbols r before after trace_before trace_after report_before report_after
 ended_image a file input symbols r before after trace_before trace_after report_before report_after is e =
     subst (λ (b : Bool). IsRunEndOf b a file input symbols r before after trace_before trace_after report_before report_after)
     (sym is) e
 
-pub begins_saved : (X : Type 0) (a : RunArguments) (file symbols : List ℕ) → is_saved a file ≡ true
+pub begins_saved : (X : Type 0) (a : RunArguments) (file symbols : List ℕ) → is_saved a.guest.raw file ≡ true
     → CanRunSaved file symbols ⊎ X → CanBegin a file symbols ⊎ X
 begins_saved X a file symbols is (inl can) = inl (subst (λ (b : Bool). CanBeginAs b a file symbols) (sym is) can)
 begins_saved X a file symbols is (inr same) = inr same
 
-pub begins_image : (X : Type 0) (a : RunArguments) (file symbols : List ℕ) → is_saved a file ≡ false
+pub begins_image : (X : Type 0) (a : RunArguments) (file symbols : List ℕ) → is_saved a.guest.raw file ≡ false
     → CanRun a file symbols ⊎ X → CanBegin a file symbols ⊎ X
 begins_image X a file symbols is (inl can) = inl (subst (λ (b : Bool). CanBeginAs b a file symbols) (sym is) can)
 begins_image X a file symbols is (inr same) = inr same

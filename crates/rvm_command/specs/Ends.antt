@@ -22,7 +22,7 @@ use Rattle.rvm_command.specs.declared.saved_fault.SaveFault.{SaveFault}
 use Rattle.rvm_command.specs.declared.saved_fault.SaveFault.TheVariants as save
 use Rattle.rvm_command.specs.Restoring.{IsRefused}
 use Rattle.rvm_command.specs.SavedRefusals.{restore_refusal}
-use Rattle.rvm_command.specs.Saved.{IsSavedGuest, begins_saved}
+use Rattle.rvm_command.specs.Saved.{IsSavedGuest, is_saved}
 use Rattle.rvm_refusal.specs.declared.refusal.Refusal.TheVariants.{OutOfMemory, OutsideRam, BadToken, LinkFault}
 use Rattle.rvm_arguments.specs.declared.arguments.DebugArguments.{DebugArguments}
 use Rattle.rvm_arguments.specs.declared.arguments.Report.TheVariants.{SavedGuest}
@@ -77,10 +77,6 @@ Writes r trace report = (0 < length r.written) ⊎ (IsTraced trace ⊎ IsReporte
 -- a file of symbols is refused at its first bad line
 abbrev pub IsSymbolRefusal : (symbols : List ℕ) → Refused → Type 0
 IsSymbolRefusal symbols r = (n : ℕ) × (refused_line symbols ≡ Some n) × (r ≡ refused_at n BadToken)
-
--- whether a file is read as a saved guest: it begins as one does, and is not said to be plain bytes
-abbrev pub is_saved : RunArguments → (file : List ℕ) → Bool
-is_saved a file = not a.guest.raw && begins_saved file
 
 -- the run of a guest that these arguments ask for, with this input
 abbrev pub guest_run : RunArguments → Guest → (input : List ℕ) → Watched
@@ -155,7 +151,7 @@ CanBeginAs false a file symbols = CanRun a file symbols
 
 -- a run of a file can begin, as one of a saved guest or of an image
 abbrev pub CanBegin : RunArguments → (file symbols : List ℕ) → Type 0
-CanBegin a file symbols = CanBeginAs (is_saved a file) a file symbols
+CanBegin a file symbols = CanBeginAs (is_saved a.guest.raw file) a file symbols
 
 -- a run of a file ends as one of a saved guest, or as one of an image
 abbrev pub IsRunEndOf : (saved : Bool) → RunArguments → (file input symbols : List ℕ) → Result Ended Refused
@@ -169,7 +165,7 @@ IsRunEndOf false a file input symbols r before after trace_before trace_after re
 abbrev pub IsRunEnd : RunArguments → (file input symbols : List ℕ) → Result Ended Refused
     → (before after trace_before trace_after report_before report_after : Option (List ℕ)) → Type 0
 IsRunEnd a file input symbols r before after trace_before trace_after report_before report_after =
-    IsRunEndOf (is_saved a file) a file input symbols r before after trace_before trace_after report_before report_after
+    IsRunEndOf (is_saved a.guest.raw file) a file input symbols r before after trace_before trace_after report_before report_after
 
 -- the lines of an image are written, or it was refused: for its file, or since a write failed
 abbrev pub IsListEnd : FileImage → Result (Unit {0}) Refused

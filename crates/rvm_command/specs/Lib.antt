@@ -36,3 +36,4 @@ pub mod Puts
 pub mod Restoring
 pub mod SavedRefusals
 pub mod RunsJoined
+pub mod GuestFiles

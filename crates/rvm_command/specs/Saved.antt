@@ -1,5 +1,5 @@
 -- Saved guests: the bytes that are written for a guest, and which guest bytes are.
-use Rattle.std.specs.Prelude.{ℕ, suc, ◌==◌, Bool, false, List, [], ◌∷◌, ◌++◌, length, Option, None}
+use Rattle.std.specs.Prelude.{ℕ, suc, ◌==◌, ◌&&◌, not, Bool, false, List, [], ◌∷◌, ◌++◌, length, Option, None}
 use Rattle.rvm_board.specs.Guest.{Guest}
 use Rattle.rvm_frame.specs.declared.frame.Frame.{Frame}
 use Rattle.rvm_frame.specs.declared.frame.Frame.TheVariants as frame
@@ -65,3 +65,7 @@ IsLeft bytes version left h = GoesOn after_received guest_running waiting bytes 
 abbrev pub begins_saved : (bytes : List ℕ) → Bool
 begins_saved [] = false
 begins_saved (b ∷ bytes) = b == 0
+
+-- whether a file is read as a saved guest: it begins as one does, and is not said to be plain bytes
+abbrev pub is_saved : (raw : Bool) → (file : List ℕ) → Bool
+is_saved raw file = not raw && begins_saved file

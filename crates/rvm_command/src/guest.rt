@@ -1,4 +1,4 @@
-//! The image of a file, and a guest that begins with it.
+//! The guest that a file has: a saved guest, or the guest of an image, which begins with it.
 
 ghost use Rattle.std.specs.Prelude.{◌≡◌, ◌⊎◌, ◌≤◌, ◌*◌, true, false, IfOk, IfErr, OnOk, replicate};
 ghost use Rattle.rvm_refusal.specs.declared.refusal.Refusal.TheVariants.{OutsideRam, OutOfMemory};
@@ -6,10 +6,13 @@ ghost use Rattle.rvm_asm.specs.Images.{pieces_of};
 ghost use Rattle.rvm_elf.specs.Load.{fits};
 ghost use Rattle.rvm_board.specs.Board.{at_reset};
 ghost use Rattle.rvm_command.specs.Command.{guest_of, image_of};
-ghost use Rattle.rvm_command.specs.Ends.{IsFileRefusal, IsLoadable, IsLoadRefusal};
+ghost use Rattle.rvm_command.specs.Ends.{IsFileRefusal, IsLoadable, IsLoadRefusal, IsSavedRefusal};
+ghost use Rattle.rvm_command.specs.GuestFiles.{IsGuestIn, IsGuestRefusal};
+ghost use Rattle.rvm_command.specs.Saved.{IsSavedGuest};
 ghost use Rattle.rvm_command.specs.Refusals.{refused};
 
 use crate::refused::Refused;
+use crate::restore::{is_saved, restore_guest};
 use rvm_arguments::GuestArguments;
 use rvm_asm::Image;
 use rvm_board::{Board, Debugged};
@@ -35,6 +38,35 @@ pub fn load_guest<M: PagedMemory + Drop>(
 {
     let image = image_of(alloc, arguments.raw, file)?;
     new_guest(alloc, arguments.harts, arguments.pages, &image)
+}
+
+/// Reads the guest that a file has: a saved guest, if the file begins with a byte 0 and is not `raw`, else a guest at reset
+/// whose board is loaded with the image of the file. Refuses with the fault of the file, with `OutsideRam` if the image does
+/// not lie in RAM, and with `OutOfMemory`.
+#[tactic(auto, using(crate::proofs::GuestFiles::saved, crate::proofs::GuestFiles::loaded, crate::proofs::GuestFiles::not_saved, crate::proofs::GuestFiles::not_loaded))]
+pub fn read_guest<M: PagedMemory + Drop>(
+    alloc: Global,
+    arguments: &GuestArguments,
+    file: &[u8],
+) -> Result<Debugged<M>, Refused>
+    ensures guest { IfOk result (λ g.
+        IsGuestIn arguments.now.raw arguments.now.harts arguments.now.pages file.now g.guest) }
+    ensures refused { IfErr result (IsGuestRefusal arguments.now.raw arguments.now.pages file.now) }
+{
+    if is_saved(arguments.raw, file) {
+        read_saved(alloc, file)
+    } else {
+        load_guest(alloc, arguments, file)
+    }
+}
+
+/// Reads a saved guest. Refuses with the fault of its bytes, and with `OutOfMemory`.
+#[tactic(auto, using(crate::proofs::SavedRuns::not_read))]
+fn read_saved<M: PagedMemory + Drop>(alloc: Global, file: &[u8]) -> Result<Debugged<M>, Refused>
+    ensures guest { IfOk result (λ g. IsSavedGuest file.now g.guest) }
+    ensures refused { IfErr result (IsSavedRefusal file.now) }
+{
+    Ok(restore_guest::<M>(alloc, file)?)
 }
 
 /// Reads the image of a file: of an ELF file, or, if it is `raw`, its bytes from the start of RAM on. Refuses with the

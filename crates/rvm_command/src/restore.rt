@@ -4,7 +4,7 @@ ghost use Rattle.std.specs.Prelude.{◌≡◌, ◌<◌, Some, None, length, IfOk
 ghost use Rattle.rvm_host.specs.Hosts.{host_of};
 ghost use Rattle.rvm_host.specs.Statuses.{kind_of};
 ghost use Rattle.rvm_command.specs.Restoring.{IsRefused, IsTarget, IsToldOf, fault_of, is_running};
-ghost use Rattle.rvm_command.specs.Saved.{IsHeard, IsSavedGuest, Restores, after_received, begins_saved, guest_running};
+ghost use Rattle.rvm_command.specs.Saved.{IsHeard, IsSavedGuest, Restores, after_received, begins_saved, guest_running, is_saved};
 ghost use Rattle.rvm_command.specs.SentFrames.{waiting};
 ghost use Rattle.rvm_command.specs.Streams.{between};
 
@@ -29,6 +29,13 @@ pub fn is_saved_guest(bytes: &[u8]) -> bool
         [0, ..] => true,
         _ => false,
     }
+}
+
+/// Whether a file is read as a saved guest: it begins as one does, and is not said to be plain bytes.
+pub(crate) fn is_saved(raw: bool, file: &[u8]) -> bool
+    ensures { result ≡ is_saved raw file.now }
+{
+    !raw && is_saved_guest(file)
 }
 
 /// Reads a saved guest: the guest that runs at a host without one once the frames of the stream have come to it, one

@@ -10,7 +10,7 @@ ghost use Rattle.rvm_refusal.specs.declared.refusal.Refusal.TheVariants.{OutOfMe
 ghost use Rattle.rvm_guest.specs.Pages.{count_of};
 ghost use Rattle.rvm_command.specs.Saved.{IsSavedGuest};
 ghost use Rattle.rvm_command.specs.Command.{end_text, guest_of, image_of};
-ghost use Rattle.rvm_command.specs.Ends.{CanBegin, CanRun, CanRunSaved, IsFaultOf, IsFileRefusal, IsImageRunEnd, IsLoadable, IsRunEnd, IsSavedRunEnd, IsTraced, RunHasStatus, Writes, is_saved, run_status};
+ghost use Rattle.rvm_command.specs.Ends.{CanBegin, CanRun, CanRunSaved, IsFaultOf, IsFileRefusal, IsImageRunEnd, IsLoadable, IsRunEnd, IsSavedRunEnd, IsTraced, RunHasStatus, Writes, run_status};
 ghost use Rattle.rvm_asm.specs.Images.{Piece};
 ghost use Rattle.rvm_command.specs.Counting.{AreRuns, Covers, is_counted, wants_counts};
 ghost use Rattle.rvm_command.specs.Reports.{report_text};
@@ -22,7 +22,7 @@ use crate::fault::write_fault;
 use crate::guest::{image_of, load_guest};
 use crate::refused::{Refused, tell};
 use crate::report::{Kept, write_report};
-use crate::restore::{is_saved_guest, restore_guest};
+use crate::restore::{is_saved, restore_guest};
 use crate::run::Ended;
 use crate::saved_fault::SaveFault;
 use crate::symbols::check_symbols;
@@ -180,18 +180,11 @@ fn run_file<M: PagedMemory + Drop, O: Write, T: Write, R: Write>(
         × (T.contents files.new.trace ≡ T.contents files.old.trace)
         × (R.contents files.new.report ≡ R.contents files.old.report)) }
 {
-    if is_saved(arguments, image) {
+    if is_saved(arguments.guest.raw, image) {
         run_saved::<M, O, T, R>(alloc, arguments, image, input, symbols, output, files)
     } else {
         run_image::<M, O, T, R>(alloc, arguments, image, input, symbols, output, files)
     }
-}
-
-/// Whether a file is read as a saved guest: it begins as one does, and is not said to be plain bytes.
-fn is_saved(arguments: &RunArguments, file: &[u8]) -> bool
-    ensures { result ≡ is_saved arguments.now file.now }
-{
-    !arguments.guest.raw && is_saved_guest(file)
 }
 
 /// Checks the symbols, reads the saved guest and runs it. Returns how the run ended, or why it was refused.

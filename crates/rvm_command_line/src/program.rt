@@ -123,9 +123,9 @@ const HOST_HELP: &str = "\
 Example: rvmove host A hello.elf --peers hosts.txt --control ./a.socket
 
 FILE has a line for each host of the world, such as `A 127.0.0.1:7001`, in the order A, B, C. Each host is a
-process; at one of them a guest begins, from an IMAGE. Standard output has what the guest sends while it is
-here; with `--input -`, standard input comes to its console as it is typed. Operators talk to the host by
-`rvmove tell`, at the socket of --control, which has a `/` if it is a path.
+process; at one of them a guest begins, from an IMAGE, or as `rvmove run --save` left it. Standard output has
+what the guest sends while it is here; with `--input -`, standard input comes to its console as it is typed.
+Operators talk to the host by `rvmove tell`, at the socket of --control, which has a `/` if it is a path.
 Without --secret all addresses must be of this machine (127.0.0.0/8 or ::1).
 
 The status:  stopped  halted 0  halted S  did not begin, or standard output failed

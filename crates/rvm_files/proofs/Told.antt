@@ -10,6 +10,7 @@ use Rattle.rvm_files.specs.declared.line_fault.LineDefect.{LineDefect}
 use Rattle.rvm_files.specs.declared.line_fault.LineFault.{LineFault}
 use Rattle.rvm_files.specs.Files.{IsFile}
 use Rattle.rvm_files.specs.LineFaults.{IsLineOf}
+use Rattle.rvm_files.specs.SavedFaults.{BeginsSaved}
 use Rattle.rvm_files.specs.Found.{HasLine, IsFileDefect, IsLongDefect, IsTrueOf, IsUnreadDefect}
 
 -- a file that is too long is told as such
@@ -91,3 +92,8 @@ line_of_text text number fault told line =
 pub same_text : (text other : List ℕ) (told : Option LineDefect) → text ≡ other → IfSome told (HasLine text)
     → IfSome told (HasLine other)
 same_text text other told is line = subst (λ t. IfSome told (HasLine t)) is line
+
+-- a file that is known begins as its bytes do
+pub begins_as_saved : (known : Option (List ℕ)) (bytes : List ℕ) → IsFile known bytes → BeginsSaved bytes → IfSome known BeginsSaved
+begins_as_saved None bytes is begins = tt
+begins_as_saved (Some all) bytes is begins = subst BeginsSaved is begins

@@ -8,6 +8,7 @@ use Rattle.rvm_files.specs.ElfFaults.{elf_error, elf_text}
 use Rattle.rvm_files.specs.FileFaults.{file_refusal, file_words}
 use Rattle.rvm_files.specs.LineFaults.{line_words}
 use Rattle.rvm_files.specs.Outsides.{outside_text}
+use Rattle.rvm_files.specs.SavedFaults.{saved_refusal, saved_words}
 use Rattle.rvm_files.specs.declared.defect.Defect.{Defect}
 use Rattle.rvm_files.specs.declared.defect.Defect.TheVariants as defect
 use Rattle.rvm_files.specs.declared.line_fault.LineDefect.{LineDefect}
@@ -23,6 +24,7 @@ defect_text (defect.LongImage limit) =
 defect_text defect.SameBytes = codes "this has the bytes of the text: it may be the text under another name"
 defect_text (defect.Elf f) = elf_text f
 defect_text (defect.Outside part) = outside_text part
+defect_text (defect.Saved f) = saved_words f
 defect_text defect.LargeText = codes "its lines have more than 16777216 bytes: lay out less .space"
 defect_text defect.ScatteredText = codes "its lines make more than 16 pieces that do not touch: use fewer .org"
 
@@ -34,6 +36,7 @@ refusal_of_defect (defect.LongImage limit) = refusal.OutsideRam
 refusal_of_defect defect.SameBytes = refusal.LinkFault
 refusal_of_defect (defect.Elf f) = refusal_of_file (elf_error f)
 refusal_of_defect (defect.Outside part) = refusal.OutsideRam
+refusal_of_defect (defect.Saved f) = saved_refusal f
 refusal_of_defect defect.LargeText = refusal.OutOfReach
 refusal_of_defect defect.ScatteredText = refusal.TooMany
 

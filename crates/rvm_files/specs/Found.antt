@@ -10,6 +10,7 @@ use Rattle.rvm_files.specs.Defects.{found_text}
 use Rattle.rvm_files.specs.LineFaults.{IsLineOf}
 use Rattle.rvm_files.specs.ElfFaults.{HasFault}
 use Rattle.rvm_files.specs.Outsides.{IsOutside}
+use Rattle.rvm_files.specs.SavedFaults.{BeginsSaved}
 use Rattle.rvm_files.specs.declared.defect.Defect.{Defect}
 use Rattle.rvm_files.specs.declared.defect.Defect.TheVariants as defect
 use Rattle.rvm_files.specs.declared.file_fault.FileFault.{FileFault}
@@ -38,6 +39,7 @@ IsTrueOf file (defect.LongImage limit) = limit < length file
 IsTrueOf file defect.SameBytes = ⊤
 IsTrueOf file (defect.Elf f) = HasFault file f
 IsTrueOf file (defect.Outside part) = HasOutside file part
+IsTrueOf file (defect.Saved f) = BeginsSaved file
 IsTrueOf file defect.LargeText = IsError file TooLarge
 IsTrueOf file defect.ScatteredText = IsError file TooMany
 

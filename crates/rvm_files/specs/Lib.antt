@@ -1,5 +1,6 @@
 pub mod Files
 pub mod FileFaults
+pub mod SavedFaults
 pub mod ElfFaults
 pub mod Outsides
 pub mod LineFaults

@@ -6,6 +6,7 @@ ghost use Rattle.rvm_files.specs.Defects.{refusal_of_defect};
 use crate::file_fault::FileFault;
 use crate::headers::ElfFault;
 use crate::image_parts::Outside;
+use crate::saved_fault::SavedFault;
 use rvm_refusal::Refusal;
 use std::fmt;
 
@@ -24,6 +25,8 @@ pub enum Defect {
     Elf(ElfFault),
     /// The image of the file does not lie in RAM.
     Outside(Outside),
+    /// The file is read as a saved guest, and is none.
+    Saved(SavedFault),
     /// The lines of the file's text have more than 2^24 bytes.
     LargeText,
     /// The lines of the file's text have more than 2^24 bytes, or bytes in more than 16 pieces that do not touch.
@@ -42,6 +45,7 @@ impl Defect {
             Defect::SameBytes => Refusal::LinkFault,
             Defect::Elf(fault) => Refusal::from(fault.error()),
             Defect::Outside(_) => Refusal::OutsideRam,
+            Defect::Saved(fault) => fault.refusal(),
             Defect::LargeText => Refusal::OutOfReach,
             Defect::ScatteredText => Refusal::TooMany,
         }
@@ -69,6 +73,7 @@ impl fmt::Display for Defect {
             ),
             Defect::Elf(fault) => write!(f, "{fault}"),
             Defect::Outside(part) => write!(f, "{part}"),
+            Defect::Saved(fault) => write!(f, "{}", fault.words()),
             Defect::LargeText => write!(
                 f,
                 "its lines have more than 16777216 bytes: lay out less .space"

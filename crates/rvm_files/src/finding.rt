@@ -1,11 +1,12 @@
 //! Finds what is wrong with the files that a command line names, after its command was refused. The files are read
 //! again, and only those that keep their bytes: what a device or a pipe gave is gone.
 
-ghost use Rattle.std.specs.Prelude.{◌≡◌, ◌+◌, ◌≤◌, IfOk, IfSome, length};
+ghost use Rattle.std.specs.Prelude.{◌≡◌, ◌+◌, ◌≤◌, IfOk, IfSome, length, true};
 ghost use Rattle.std.specs.Str.{IsValidUpTo};
 ghost use Rattle.rvm_files.specs.declared.defect.Defect.TheVariants.{SameBytes};
 ghost use Rattle.rvm_files.specs.Files.{IsFile, IsFirst};
 ghost use Rattle.rvm_files.specs.Found.{HasLine, IsFileDefect, IsLongDefect, IsTrue, IsTrueOf, IsUnreadDefect};
+ghost use Rattle.rvm_files.specs.SavedFaults.{BeginsSaved};
 
 use crate::defect::Defect;
 use crate::file_fault::FileFault;
@@ -16,6 +17,7 @@ use crate::image_parts::outside_part;
 use crate::images::image_limit;
 use crate::line_fault::{LineDefect, LineFault, line_defect};
 use crate::refusal_report::RefusalReport;
+use crate::saved_fault::SavedFault;
 use rvm_arguments::{
     Arguments, AsmArguments, AuditJournalsArguments, DisArguments, GuestArguments, HostArguments,
     OrdersArguments, ReplayArguments, Report, ReportArguments, RunArguments, ScriptArguments,
@@ -75,7 +77,7 @@ impl<'b, F: NamedFiles> Refusing<'b, F> {
         if let Some(found) = self.find_in_outputs(run) {
             return Some(found);
         }
-        self.find_outside(&run.guest)
+        self.find_in_first_guest(&run.guest)
     }
 
     /// What is wrong with the files of `run --orders`.
@@ -196,7 +198,10 @@ impl<'b, F: NamedFiles> Refusing<'b, F> {
         ensures { IfSome result (IsTrue (F.bytes_of self.now.files.now)) }
     {
         if let Some(guest) = &host.guest {
-            if let Some(found) = self.find_in_guest(guest) {
+            if let Some(found) = self.find_in_image(guest) {
+                return Some(found);
+            }
+            if let Some(found) = self.find_in_first_guest(guest) {
                 return Some(found);
             }
         }
@@ -337,6 +342,42 @@ impl<'b, F: NamedFiles> Refusing<'b, F> {
             guest.image,
             image_defect(self.alloc, &file, 4096 * guest.pages),
         )
+    }
+
+    /// What is wrong with the guest that a file has: with the saved guest, if it is read as one, else with the image.
+    #[tactic(auto, using(crate::proofs::Told::begins_as_saved))]
+    fn find_in_first_guest<'a>(&self, guest: &GuestArguments<'a>) -> Option<Found<'a>>
+        ensures { IfSome result (IsTrue (F.bytes_of self.now.files.now)) }
+    {
+        if guest.raw {
+            return None;
+        }
+        let Some(file) = whole_again(self.files, self.alloc, guest.image) else {
+            return None;
+        };
+        if begins_saved(&file) {
+            self.find_in_saved(guest.image)
+        } else {
+            self.find_outside(guest)
+        }
+    }
+
+    /// What is wrong with a saved guest, as the report has it. A host has no such report, so nothing is found of it.
+    fn find_in_saved<'a>(&self, file: &'a str) -> Option<Found<'a>>
+        requires { IfSome (F.bytes_of self.now.files.now file.now) BeginsSaved }
+        ensures { IfSome result (IsTrue (F.bytes_of self.now.files.now)) }
+    {
+        let _report = self.report?;
+        for fault in [
+            SavedFault::CutOff,
+            SavedFault::NoFrame,
+            SavedFault::LongFrame,
+        ] {
+            if let Some(found) = self.found(file, Some(Defect::Saved(fault))) {
+                return Some(found);
+            }
+        }
+        None
     }
 
     /// What is wrong with an ELF file.
@@ -516,6 +557,16 @@ fn whole_again<F: NamedFiles>(files: &F, alloc: Global, path: &str) -> Option<Ve
         return None;
     }
     Some(bytes)
+}
+
+/// Whether a file begins as a saved guest does, with a byte 0.
+fn begins_saved(file: &[u8]) -> bool
+    ensures { result ≡ true → BeginsSaved file.now }
+{
+    match file {
+        [0, ..] => true,
+        _ => false,
+    }
 }
 
 /// What is wrong with the bytes of an ELF file whose image is to lie in a RAM of `ram_size` bytes.

@@ -4,7 +4,7 @@
 //! and the disassembler's numbers. Knows no command, and reaches files through the runtime or another `NamedFiles` alone.
 //!
 //! To be read in this order: `files`, `images`; how a refusal is explained, `file_fault`, `headers`, `image_parts`,
-//! `line_fault`, `defect`, `found`, `refusal_report`, `finding`, `unfound`, `explaining`.
+//! `line_fault`, `saved_fault`, `defect`, `found`, `refusal_report`, `finding`, `unfound`, `explaining`.
 #![tactic(auto)]
 
 mod defect;
@@ -18,6 +18,7 @@ mod image_parts;
 mod images;
 mod line_fault;
 mod refusal_report;
+mod saved_fault;
 mod unfound;
 
 pub use defect::Defect;
@@ -32,3 +33,4 @@ pub use headers::ElfFault;
 pub use image_parts::Outside;
 pub use images::{begin_image, check_image, read_image};
 pub use line_fault::{LineDefect, LineFault};
+pub use saved_fault::SavedFault;
