@@ -1,9 +1,8 @@
 -- What a host process shows.
-use Rattle.std.specs.Prelude.{◌≡◌, ◌≢◌, ◌<◌, ℕ, zero, suc, Bool, if◌then◌else◌, List, true, length, Option, None, Some, Result, Ok, Err, IfOk}
+use Rattle.std.specs.Prelude.{◌≡◌, ◌≢◌, ◌<◌, ℕ, zero, suc, Bool, if◌then◌else◌, List, true, length, Option, None, Some, Result, Ok, Err}
 use Rattle.rvm_arguments.specs.declared.arguments.GuestArguments.{GuestArguments}
 use Rattle.rvm_arguments.specs.declared.arguments.HostArguments.{HostArguments}
-use Rattle.rvm_command.specs.Command.{guest_of, image_of}
-use Rattle.rvm_command.specs.Ends.{IsLoadable}
+use Rattle.rvm_command.specs.GuestFiles.{IsGuestIn}
 use Rattle.rvm_host.specs.Hosts.{PlainHost, new_host}
 use Rattle.rvm_board.specs.Guest.{GuestState}
 use Rattle.rvm_cell.specs.Events.{IsAnswer}
@@ -18,13 +17,11 @@ use Rattle.rvm_debug.specs.Words.{lines}
 abbrev pub opening_of : Option GuestState → (id count : ℕ) → PlainHost
 opening_of guest id count = new_host guest id count 4096 3
 
--- this guest, or none, is the one that begins at a host with this image
+-- this guest, or none, is the one that begins at a host with this image, or this saved guest
 abbrev pub IsGuestOf : Option GuestArguments → (image : List ℕ) → Option GuestState → Type 0
 IsGuestOf None image guest = guest ≡ None
 IsGuestOf (Some a) image None = ⊥
-IsGuestOf (Some a) image (Some g) =
-    IsLoadable (image_of a.raw image) a.pages
-    × IfOk (image_of a.raw image) (λ i. g.guest ≡ guest_of a.harts a.pages i.0 i.1)
+IsGuestOf (Some a) image (Some g) = IsGuestIn a.raw a.harts a.pages image g.guest
 
 -- the host with this number, among this many, has this name
 abbrev pub IsNamed : (name : List ℕ) → (count number : ℕ) → Type 0
@@ -42,7 +39,7 @@ pub record HasWorked (opening : PlainHost) (end : HartsEnd) (before now : Option
 
 -- a host worked until it came to this end, and its console shows what the guest sent while it was here: the world is
 -- the one that the file of peers names, the host is the one with its name there, and it began with the guest of the
--- image, if one was given
+-- image, or the saved guest, if one was given
 pub record IsHosted (a : HostArguments) (peers image : List ℕ) (end : HartsEnd) (before now : Option (List ℕ)) : Type 0 where
   pub world : List (List ℕ)
   pub number : ℕ

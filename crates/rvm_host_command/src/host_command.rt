@@ -10,13 +10,13 @@ use crate::address::{checked_address, is_path, listen_at, listen_for_operators};
 use crate::fault::{HostFault, Place};
 use crate::hosting::{HostPlan, HostStart, Numbers, draw_numbers, work_at};
 use crate::operators::Operators;
-use rvm_arguments::{GuestArguments, HostArguments};
+use rvm_arguments::HostArguments;
 use rvm_board::Debugged;
 use rvm_cell::{HartsEnd, InputQueue};
-use rvm_command::guest::load_guest;
+use rvm_command::guest::read_guest;
 use rvm_greeting::{Peers, Secret, read_peers};
 use rvm_journal::{Header, Image, JournalWriter, letter_of};
-use rvm_mem::PagedMemory;
+use rvm_mem::{Memory, PAGE_SIZE, PagedMemory};
 use rvm_refusal::LinkFault;
 use std::alloc::Global;
 use std::fs;
@@ -37,7 +37,7 @@ const FAILED: u8 = 3;
 pub struct HostBytes<'a> {
     /// The file of peers, which names the hosts of the world.
     pub peers: &'a [u8],
-    /// The image of the guest that begins here; not used if none does.
+    /// The image of the guest that begins here, or the saved guest; not used if none does.
     pub image: &'a [u8],
     /// The secret that the hosts share, if they share one.
     pub secret: Option<&'a [u8]>,
@@ -140,7 +140,8 @@ where
     };
     let only_loopback = files.secret.is_none();
     check_addresses(rt, &peers, only_loopback)?;
-    let guest = load(alloc, arguments, files.image)?;
+    let guest = read(alloc, arguments, files.image)?;
+    let named = image_of::<M>(arguments, files.image, &guest);
     let hosts = listen_for_hosts(rt, arguments, &peers, id, only_loopback)?;
     let operators = listen_for_operators(rt, arguments.control)?;
     let plan = HostPlan {
@@ -158,7 +159,7 @@ where
         secret,
         numbers,
     };
-    let log = begin_journal::<R::Listener, R>(rt, alloc, arguments, files.image, &plan, numbers);
+    let log = begin_journal::<R::Listener, R>(rt, alloc, arguments, named, &plan, numbers);
     let ended = match log {
         Ok(log) => {
             tell_addresses(&hosts, &operators, arguments.control, errors);
@@ -180,7 +181,7 @@ fn begin_journal<N: Drop, R: Files>(
     rt: &R,
     alloc: Global,
     arguments: &HostArguments,
-    image: &[u8],
+    guest: Option<Image>,
     plan: &HostPlan<'_, N>,
     numbers: Numbers,
 ) -> Result<Option<JournalWriter<R::File>>, HostFault>
@@ -194,7 +195,7 @@ fn begin_journal<N: Drop, R: Files>(
         host: plan.id,
         process: numbers.process,
         world: numbers.world,
-        guest: image_of(&arguments.guest, image),
+        guest,
     };
     let Ok(file) = File::create(rt, path) else {
         return Err(HostFault::NoJournal);
@@ -205,10 +206,17 @@ fn begin_journal<N: Drop, R: Files>(
     }
 }
 
-/// The guest with which a host begins, if it begins with one, as a journal names it.
-fn image_of(guest: &Option<GuestArguments>, bytes: &[u8]) -> Option<Image> {
+/// The guest with which a host begins, if it begins with one, as a journal names it: by its harts and pages, and the file
+/// that has it.
+fn image_of<M: Memory + Drop>(
+    arguments: &HostArguments,
+    bytes: &[u8],
+    guest: &Option<Debugged<M>>,
+) -> Option<Image> {
+    let asked = arguments.guest.as_ref()?;
     let guest = guest.as_ref()?;
-    Some(Image::of(guest.raw, guest.harts, guest.pages, bytes))
+    let pages = guest.memory().len() / PAGE_SIZE;
+    Some(Image::of(asked.raw, guest.harts(), pages, bytes))
 }
 
 /// The number of the host with this name among `count` hosts: 0 for A. `NoSuchHost` if there is none.
@@ -264,8 +272,8 @@ fn listen_for_hosts<R: Net>(
     }
 }
 
-/// Loads the guest that begins here, if one does. Fails with `Image` if it cannot be loaded.
-fn load<M: PagedMemory + Drop>(
+/// Reads the guest that begins here, if one does: of an image, or a saved guest. Fails with `Image` if it cannot be read.
+fn read<M: PagedMemory + Drop>(
     alloc: Global,
     arguments: &HostArguments,
     image: &[u8],
@@ -275,7 +283,7 @@ fn load<M: PagedMemory + Drop>(
     let Some(guest) = &arguments.guest else {
         return Ok(None);
     };
-    match load_guest::<M>(alloc, guest, image) {
+    match read_guest::<M>(alloc, guest, image) {
         Ok(guest) => Ok(Some(guest)),
         Err(refused) => Err(HostFault::Image(refused)),
     }

@@ -53,7 +53,7 @@ the_guest image (Some i) (Some guest) P is named here = (guest, named, here)
 -- a guest that is named is valid
 valid_of : (image : List ℕ) (i : Option Image) (g : GuestState) → IsGuestNamed i image (Some g) → is_valid g.guest ≡ true
 valid_of image None g named = cc
-valid_of image (Some i) g named = named.3
+valid_of image (Some i) g named = named.2
 
 -- what stands for the host of a number that a list does not have
 abbrev blank : Recording

@@ -3,8 +3,8 @@ use Rattle.std.specs.Prelude.{◌≡◌, ◌≢◌, ℕ, List, [], ◌++◌, Opt
 use Rattle.std.specs.Char.{encode_utf8}
 use Rattle.sha2.specs.Sha256.{sha256}
 use Rattle.rvm_command.specs.declared.refused.Refused.{Refused}
-use Rattle.rvm_command.specs.Command.{image_of, refused_text}
-use Rattle.rvm_command.specs.Ends.{IsLoadRefusal}
+use Rattle.rvm_command.specs.Command.{refused_text}
+use Rattle.rvm_command.specs.GuestFiles.{IsGuestRefusal}
 use Rattle.rvm_debug.specs.Words.{lines}
 use Rattle.rvm_journal.specs.declared.header.Header.{Header}
 use Rattle.rvm_journal.specs.declared.header.Image.{Image}
@@ -25,10 +25,10 @@ IsNoImage guest file = IsOtherImage guest file × (file ≡ [])
 abbrev pub IsWrongImage : (guest : Option Image) → (file : List ℕ) → Type 0
 IsWrongImage guest file = IsOtherImage guest file × (file ≢ [])
 
--- a header names a guest, this is the file of its image, and the guest cannot be loaded from it
+-- a header names a guest, this is the file of its image, and the guest cannot be read from it
 abbrev pub IsBadImage : (why : Refused) → (guest : Option Image) → (file : List ℕ) → Type 0
 IsBadImage why guest file =
-    IsSomeAnd guest (λ i. (sha256 file ≡ i.digest) × IsLoadRefusal (image_of i.raw file) i.pages why)
+    IsSomeAnd guest (λ i. (sha256 file ≡ i.digest) × IsGuestRefusal i.raw i.pages file why)
 
 -- this is wrong with the file of the image of a guest that a header names
 abbrev pub IsGuestFault : FileFault → (guest : Option Image) → (file : List ℕ) → Type 0

@@ -1,11 +1,10 @@
 -- The host of a journal, and what it does again.
-use Rattle.std.specs.Prelude.{◌≡◌, ℕ, true, List, Option, Some, None, IfOk, slice_get}
+use Rattle.std.specs.Prelude.{◌≡◌, ℕ, true, List, Option, Some, None, slice_get}
 use Rattle.std.specs.Option.{option_and_then}
 use Rattle.sha2.specs.Sha256.{sha256}
 use Rattle.rvm_board.specs.Guest.{GuestState}
 use Rattle.rvm_guest.specs.Valid.{is_valid}
-use Rattle.rvm_command.specs.Command.{guest_of, image_of}
-use Rattle.rvm_command.specs.Ends.{IsLoadable}
+use Rattle.rvm_command.specs.GuestFiles.{IsGuestIn}
 use Rattle.rvm_host.specs.Hosts.{new_host}
 use Rattle.rvm_recorder.specs.History.{Recording}
 use Rattle.rvm_journal.specs.declared.header.Header.{Header}
@@ -20,8 +19,7 @@ abbrev pub IsGuestNamed : Option Image → (file : List ℕ) → Option GuestSta
 IsGuestNamed None file guest = guest ≡ None
 IsGuestNamed (Some i) file None = ⊥
 IsGuestNamed (Some i) file (Some g) =
-    (sha256 file ≡ i.digest) × IsLoadable (image_of i.raw file) i.pages
-    × IfOk (image_of i.raw file) (λ v. g.guest ≡ guest_of i.harts i.pages v.0 v.1) × (is_valid g.guest ≡ true)
+    (sha256 file ≡ i.digest) × IsGuestIn i.raw i.harts i.pages file g.guest × (is_valid g.guest ≡ true)
 
 -- a host began as the header of its journal says, with this guest or none, and did what the journal tells
 pub record IsHostOf (header : Header) (bytes image : List ℕ) (r : Recording) : Type 0 where

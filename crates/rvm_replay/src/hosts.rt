@@ -15,7 +15,7 @@ ghost use Rattle.rvm_replay.specs.Replays.{IsReplay};
 use crate::file::FileFault;
 use rvm_arguments::GuestArguments;
 use rvm_board::{Debugged, MAX_HARTS};
-use rvm_command::guest::load_guest;
+use rvm_command::guest::read_guest;
 use rvm_guest::valid_guest;
 use rvm_host::Host;
 use rvm_journal::{Header, Image, JournalFault, read_header, replay_journal};
@@ -123,7 +123,7 @@ fn guest_of<M: PagedMemory + Drop>(
         harts: image.harts,
         pages: image.pages,
     };
-    match load_guest::<M>(alloc, &arguments, file) {
+    match read_guest::<M>(alloc, &arguments, file) {
         Ok(guest) => {
             valid_guest(&guest);
             Ok(Some(guest))
