@@ -14,13 +14,13 @@ use Rattle.rvm_hart.specs.Pokes.{bus_poked, bus_cleared}
 use Rattle.rvm_board.specs.Board.{Board, IsBoard, machine_at, new_hart, stepped, with_machine}
 
 -- the parts of a shape that is kept
-record Kept (m n : Machine) : Type 0 where
-  hart : m.hart.csrs.hart ≡ n.hart.csrs.hart
-  bytes : length m.shared.bytes ≡ length n.shared.bytes
-  reservations : length m.shared.reservations ≡ length n.shared.reservations
-  msip : length m.shared.devices.msip ≡ length n.shared.devices.msip
+pub record Kept (m n : Machine) : Type 0 where
+  pub hart : m.hart.csrs.hart ≡ n.hart.csrs.hart
+  pub bytes : length m.shared.bytes ≡ length n.shared.bytes
+  pub reservations : length m.shared.reservations ≡ length n.shared.reservations
+  pub msip : length m.shared.devices.msip ≡ length n.shared.devices.msip
 
-kept : (m n : Machine) → shape m ≡ shape n → Kept m n
+pub kept : (m n : Machine) → shape m ≡ shape n → Kept m n
 kept m n e = record { hart = cc; bytes = cc; reservations = cc; msip = cc }
 
 number_after : (harts : List HartState) (h k : ℕ) (x blank : HartState) → h < length harts → x.csrs.hart ≡ h → (get_or harts k blank).csrs.hart ≡ k → (get_or (set harts h x) k blank).csrs.hart ≡ k

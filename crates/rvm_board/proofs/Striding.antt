@@ -172,26 +172,20 @@ strides_on count first left left' hart hart' old now new x so some less next mad
 
 -- ROWS
 
-pub row_begins : (h : ℕ) (b : BoardState) → GoOn h h b b
-row_begins h b = λ count from left begun enough so. subst (λ i. Striding count from begun i (h % length b.plain.harts) b) (omega arith) so
+pub row_begins : (b : BoardState) → GoOn 0 b b
+row_begins b = λ count from left begun enough so.
+    subst (λ i. Striding count from begun i (0 % length b.plain.harts) b) (omega arith)
+    (subst (λ i. Striding count from begun left i b) (sym (mod-eq_of_lt (omega (arith, so.inside, so.size)))) so)
 
-pub row_goes_on : (first h : ℕ) (old now new : BoardState) (x : Machine) → GoOn first h old now → first ≤ h → h < length now.plain.harts → length now.plain.harts ≡ length old.plain.harts
-    → Strides (machine_at h now.plain) x now.dirty new.dirty → new.plain ≡ with_machine h x now.plain → GoOn first (h + 1) old new
-row_goes_on first h old now new x go above inside size made put = λ count from left begun enough so.
+pub row_goes_on : (h : ℕ) (old now new : BoardState) (x : Machine) → GoOn h old now → h < length now.plain.harts → length now.plain.harts ≡ length old.plain.harts
+    → Strides (machine_at h now.plain) x now.dirty new.dirty → new.plain ≡ with_machine h x now.plain → GoOn (h + 1) old new
+row_goes_on h old now new x go inside size made put = λ count from left begun enough so.
     let harts : ℕ = length old.plain.harts in
-    let so_far : Striding count from begun (left - (h - first)) (h % harts) now = go count from left begun (omega (arith, enough, above)) so in
+    let so_far : Striding count from begun (left - h) (h % harts) now = go count from left begun (omega (arith, enough)) so in
     let same : h ≡ h % harts = sym (mod-eq_of_lt (omega (arith, inside, size))) in
     let next : (h + 1) % harts ≡ (h % harts + 1) % length begun.plain.harts = sym (mod-add-mod h harts 1) ∙ ap (λ l. (h % harts + 1) % l) so.size in
-    strides_on count from (left - (h - first)) (left - (h + 1 - first)) (h % harts) ((h + 1) % harts) begun now new x so_far (omega (arith, enough, above)) (omega (arith, enough, above)) next
+    strides_on count from (left - h) (left - (h + 1)) (h % harts) ((h + 1) % harts) begun now new x so_far (omega (arith, enough)) (omega (arith, enough)) next
     (subst (λ i. Strides (machine_at i now.plain) x now.dirty new.dirty) same made) (put ∙ ap (λ i. with_machine i x now.plain) same)
-
--- a row, and the turns before it
-pub after_row : (count from left left' h next hart' : ℕ) (begun old new : BoardState) → GoOn h next old new → Striding count from begun left h old → h < length old.plain.harts → next - h ≤ left → left' ≡ left - (next - h) → hart' ≡ next % length old.plain.harts
-    → Striding count from begun left' hart' new
-after_row count from left left' h next hart' begun old new go so inside enough less place =
-    subst (λ i. Striding count from begun i hart' new) (sym less)
-    (subst (λ i. Striding count from begun (left - (next - h)) i new) (sym place)
-    (go count from left begun enough (subst (λ i. Striding count from begun left i old) (sym (mod-eq_of_lt inside)) so)))
 
 -- BOARDS
 

@@ -51,13 +51,18 @@ pub record Striding (count first : ℕ) (old : BoardState) (left next : ℕ) (no
   pub computed : Compute (length old.plain.harts) (count - left) first (guest_on old)
       (guest_on (record { plain = risen_after first (count - left) now.plain; dirty = now.dirty }))
 
--- whatever turns were made before, those of harts h to the one before `next` go on after them
-abbrev pub GoOn : (h next : ℕ) → (old new : BoardState) → Type 0
-GoOn h next old new =
-    (count first left : ℕ) → (begun : BoardState) → next - h ≤ left
-    → Striding count first begun left (h % length old.plain.harts) old
-    → Striding count first begun (left - (next - h)) (next % length old.plain.harts) new
+-- whatever turns were made before, those of harts 0 to h - 1 go on after them
+abbrev pub GoOn : (h : ℕ) → (old new : BoardState) → Type 0
+GoOn h old new =
+    (count first left : ℕ) → (begun : BoardState) → h ≤ left → Striding count first begun left 0 old
+    → Striding count first begun (left - h) (h % length old.plain.harts) new
 
 -- the board of these harts and this bus
 abbrev pub board_of : List HartState → BusState → BoardState
 board_of hs b = record { plain = record { harts = hs; shared = b.shared }; dirty = b.dirty }
+
+-- a board became that of these harts and this bus, but for its counters, as harts 0 to h - 1 took their turns
+pub record Row (h : ℕ) (old : BoardState) (harts : List HartState) (b : BusState) : Type 0 where
+  pub size : length harts ≡ length old.plain.harts
+  pub board : IsBoard (board_of harts b).plain
+  pub turns : GoOn h old (board_of harts b)

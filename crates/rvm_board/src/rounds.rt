@@ -1,11 +1,11 @@
 //! Turns of several harts on the straight path. One loop makes them, and the counters of all harts rise after it.
 
-ghost use Rattle.std.specs.Prelude.{◌≡◌, ◌<◌, ◌≤◌, ◌+◌, ◌-◌, ◌%◌, ◌^◌, IfNone, IfSome, None, if◌then◌else◌, length, true};
-ghost use Rattle.rvm_hart.specs.Machine.{with_devices};
+ghost use Rattle.std.specs.Prelude.{◌≡◌, ℕ, ◌<◌, ◌≤◌, ◌+◌, ◌-◌, ◌%◌, ◌^◌, List, ◌++◌, All, None, if◌then◌else◌, length};
+ghost use Rattle.rvm_hart.specs.Machine.{HartState, with_devices};
 ghost use Rattle.rvm_hart.specs.Straight.{at_time, risen};
-ghost use Rattle.rvm_board.specs.Board.{IsBoard};
+ghost use Rattle.rvm_board.specs.Board.{BoardState, IsBoard};
 ghost use Rattle.rvm_board.specs.Computing.{Compute};
-ghost use Rattle.rvm_board.specs.Rounds.{AreQuiet, GoOn, board_of, guest_on, risen_after, risen_up_to, share};
+ghost use Rattle.rvm_board.specs.Rounds.{AreQuiet, Row, board_of, guest_on, risen_after, risen_up_to, share};
 
 use crate::board::Board;
 use rvm_hart::{Bus, Hart};
@@ -93,8 +93,8 @@ fn quiet_turns<M: Memory>(harts: &[Hart], bus: &Bus<M>, count: u32) -> u32
     quiet
 }
 
-/// Runs at most `count` instructions of the path, one of each hart in turn, and the first of hart `first`. Ends after
-/// that of the last hart, or early before one that leaves the path. No counter rises.
+/// Runs at most `count` instructions of the path, one of each hart in turn: whole rows of harts, from hart 0 on, and none
+/// if hart `first` is another one. Ends early before one that leaves the path. No counter rises.
 #[inline(always)]
 fn rows_in_turn<M: Memory, const LOOP: u8>(
     harts: &mut [Hart],
@@ -115,50 +115,49 @@ fn rows_in_turn<M: Memory, const LOOP: u8>(
         (guest_on (board_of harts.old bus.old))
         (guest_on (record { plain = risen_after first (count - result.left) (board_of harts.new bus.new).plain; dirty = bus.new.dirty })) }
 {
-    let number = harts.len() as u32;
-    let decoder = harts[first as usize].decoder();
-    let mut hart = first;
-    let mut left = count;
-    while left >= number - hart {
-        if let Some(next) = row_of_harts::<M, LOOP>(decoder, harts, bus, hart) {
-            left -= next - hart;
-            return Rounds { left, hart: next };
-        }
-        left -= number - hart;
-        hart = 0;
+    if first != 0 {
+        return Rounds {
+            left: count,
+            hart: first,
+        };
     }
-    Rounds { left, hart }
+    let number = harts.len() as u32;
+    let decoder = harts[0].decoder();
+    let mut left = count;
+    while left >= number {
+        let behind = row_of_harts::<M, LOOP>(decoder, harts, bus) as u32;
+        left -= number - behind;
+        if behind > 0 {
+            return Rounds {
+                left,
+                hart: number - behind,
+            };
+        }
+    }
+    Rounds { left, hart: 0 }
 }
 
-/// Runs one instruction of the path of each hart from `first` to the last. Ends early before one that leaves the path, and
-/// returns the hart of this one. No counter rises.
-#[inline(always)]
+/// Runs one instruction of the path of each of these harts, one after the other. Ends early before one that leaves the
+/// path, and returns how many harts ran none. No counter rises.
 fn row_of_harts<M: Memory, const LOOP: u8>(
     decoder: Decoder,
     harts: &mut [Hart],
     bus: &mut Bus<M>,
-    first: u32,
-) -> Option<u32>
-    requires first { first < length harts.old }
-    requires board { IsBoard (board_of harts.old bus.old).plain }
-    ensures first { IfSome result (λ next. first ≤ next) }
-    ensures end { IfSome result (λ next. next < length harts.old) }
+) -> usize
+    requires reservations { All (λ x. x.csrs.hart < length bus.old.shared.reservations) harts.old }
+    ensures behind { result ≤ length harts.old }
     ensures size { length harts.new ≡ length harts.old }
-    ensures board { IsBoard (board_of harts.new bus.new).plain }
-    ensures some { IfSome result
-        (λ next. GoOn first next (board_of harts.old bus.old) (board_of harts.new bus.new)) }
-    ensures all { IfNone result
-        (GoOn first (length harts.old) (board_of harts.old bus.old) (board_of harts.new bus.new)) }
+    ensures turns { (front : List HartState) → (old : BoardState) → Row (length front) old (front ++ harts.old) bus.old
+        → Row (length front + (length harts.old - result)) old (front ++ harts.new) bus.new }
 {
-    let (_, rest) = harts.split_at_mut(first as usize);
-    let mut next = first;
-    for hart in rest.iter_mut() {
-        if !hart.row_straight::<M, LOOP>(decoder, bus) {
-            return Some(next);
-        }
-        next += 1;
+    let behind = harts.len();
+    let Some((hart, others)) = harts.split_first_mut() else {
+        return 0;
+    };
+    if !hart.row_straight::<M, LOOP>(decoder, bus) {
+        return behind;
     }
-    None
+    row_of_harts::<M, LOOP>(decoder, others, bus)
 }
 
 /// Raises the counters of each hart by its number of turns, if `made` turns were made and hart `first` had the first,
