@@ -12,9 +12,9 @@ use rvm_mem::Memory;
 impl<M: Memory> Debugged<M> {
     /// Makes at most `count` turns of the harts in their order, from the turn of hart `first` on, as long as each runs
     /// an instruction that reaches registers, RAM and reservations alone. No such turn changes what waits in the
-    /// console, so nothing need be looked at between them. On a board of several harts, ends after the turn of the last
-    /// hart where fewer than a turn of each are left. Makes none if a breakpoint is set or a hart stands at one. Returns
-    /// how many were made. Takes no memory.
+    /// console, so nothing need be looked at between them. On a board of several harts, makes none if `first` is not 0,
+    /// and ends after the turn of the last hart where fewer than a turn of each are left. Makes none if a breakpoint is
+    /// set or a hart stands at one. Returns how many were made. Takes no memory.
     #[tactic(auto, using(crate::proofs::Alone::computes_alone))]
     pub fn compute(&mut self, first: u32, count: u32) -> u32
         requires { first < length self.old.guest.board.harts }

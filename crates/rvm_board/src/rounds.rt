@@ -25,9 +25,10 @@ pub(crate) struct Rounds {
 }
 
 impl<M: Memory> Board<M> {
-    /// Makes at most `count` turns of the harts in their order on the straight path, from the turn of hart `first` on,
-    /// and none on a halted board. Ends early before a turn that leaves the path, or in which some hart may take an
-    /// interrupt. `LOOP` is the number of the caller's loop, as in `Hart::run_straight`.
+    /// Makes at most `count` turns of the harts in their order on the straight path, in whole rows from hart 0 on: none
+    /// if hart `first`, which has the next turn, is another one, and none on a halted board. Ends early before a turn that
+    /// leaves the path, or in which some hart may take an interrupt. `LOOP` is the number of the caller's loop, as in
+    /// `Hart::run_straight`.
     #[inline(always)]
     pub(crate) fn run_rounds<const LOOP: u8>(&mut self, first: u32, count: u32) -> Rounds
         requires { first < length self.old.plain.harts }
