@@ -1,5 +1,5 @@
 -- A host's move stays with a host that is there, and its frames go to such a host.
-use Rattle.std.proofs.Common.{◌≡◌, ℕ, ◌-◌, ◌==◌, true, refl, ◌||◌, List, Option, Some, None}
+use Rattle.std.proofs.Common.{◌≡◌, ℕ, ◌==◌, true, refl, ◌||◌, List, Option, Some, None}
 use Rattle.rvm_codec.proofs.Steps.{both_are}
 use Rattle.rvm_board.specs.Guest.{Guest}
 use Rattle.rvm_guest.specs.TheGuest.{board}

@@ -20,7 +20,7 @@ use Rattle.rvm_cell.specs.Calls.{AtA, AtB, Call, EndsDry, HasRun, Made, Written,
 use Rattle.rvm_cell.specs.declared.pair.Drained.{Drained}
 use Rattle.rvm_cell.specs.declared.pair.Drained.TheVariants as found
 use Rattle.rvm_cell.specs.Drains.{bytes_of, bytes_told, found_nothing, is_nothing, told_by}
-use Rattle.rvm_cell.specs.Turns.{AreTurns, Dry, Mark, Turned, after_step, after_turns, drained, if_dry, mark_made, turns, turns_of}
+use Rattle.rvm_cell.specs.Turns.{AreTurns, Dry, Mark, after_step, after_turns, drained, if_dry, mark_made, turns, turns_of}
 use Rattle.rvm_cell.specs.declared.harts.TurnsEnd.{TurnsEnd}
 use Rattle.rvm_cell.specs.declared.harts.TurnsEnd.TheVariants as ended
 use Rattle.rvm_cell.specs.declared.harts.TurnsEnd.TheVariants.{StepsSpent}

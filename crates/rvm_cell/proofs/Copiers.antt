@@ -1,7 +1,6 @@
 -- The calls of a copier, in order.
 use Rattle.std.proofs.Common.{◌≡◌, ◌∙◌, ℕ, suc, ◌-◌, ◌≤◌, not, true, false, List, [], ◌∷◌, ◌++◌, length, Option, None, Some, Result, Ok, Err, ap, refl, sym, subst, arith, inl, inr}
 use Rattle.std.proofs.lemmas.List.Elements.{All-cons, All-nil}
-use Rattle.std.specs.List.{All}
 use Rattle.std.specs.Prelude.{IfOk, IsSomeAnd, OnErr, option_map, slice_get}
 use Rattle.rvm_recorder.specs.Receipts.{PlainReceipt}
 use Rattle.rvm_message.specs.declared.event.Command.TheVariants as command

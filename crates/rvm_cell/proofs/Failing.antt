@@ -2,7 +2,6 @@
 use Rattle.std.proofs.Common.{◌≡◌, true, ap}
 use Rattle.rvm_cell.specs.declared.end.WorkEnd.{WorkEnd}
 use Rattle.rvm_cell.specs.declared.end.WorkEnd.TheVariants.{BadFrame, Done, Failed, GivenUp, GuestStopped, LinkEnded, LinkFault, NoThread, OutOfMemory, OutOfRange, RecorderFull, Stopped, TooLong}
-use Rattle.rvm_cell.specs.Endings.{is_uncalled}
 use Rattle.rvm_cell.specs.Ends.{is_short_of_room, is_unsliced}
 use Rattle.rvm_cell.specs.Turns.{fails_calling, fails_running}
 

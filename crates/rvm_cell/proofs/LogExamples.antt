@@ -1,5 +1,5 @@
 -- What a log keeps, worked out by hand.
-use Rattle.std.proofs.Common.{◌≡◌, List, [], ◌∷◌, None, Some, refl}
+use Rattle.std.proofs.Common.{◌≡◌, [], ◌∷◌, None, Some, refl}
 use Rattle.rvm_hart.specs.declared.outcome.Stepped.TheVariants.{Halted}
 use Rattle.rvm_message.specs.declared.event.Command.TheVariants.{Abort, Copy}
 use Rattle.rvm_message.specs.declared.event.HostEvent.TheVariants.{Do}

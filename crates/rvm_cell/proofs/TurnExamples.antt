@@ -13,7 +13,7 @@ use Rattle.rvm_message.specs.declared.reply.HostReply.TheVariants as reply
 use Rattle.rvm_cell.specs.Calls.{AtA, AtB, Call, EndsDry, bytes_in, in_a, in_b, is_dry, is_of_run, marks_in}
 use Rattle.rvm_cell.specs.declared.slices.Then.TheVariants.{GoOn, Halted}
 use Rattle.rvm_cell.specs.declared.harts.TurnsEnd.TheVariants as ended
-use Rattle.rvm_cell.specs.Turns.{AreTurns, Dry, Mark, Turned, drained, turns}
+use Rattle.rvm_cell.specs.Turns.{AreTurns, Dry, Turned, drained, turns}
 
 -- a receipt of what a guest was asked
 abbrev receipt : BoardEvent → HostReply → PlainReceipt

@@ -1,6 +1,5 @@
 -- The laws of live migration, for worlds of debugged boards.
-use Rattle.std.proofs.Common.{◌≡◌, ℕ, true, List, sym, subst}
-use Rattle.rvm_board.specs.declared.event.BoardEvent.{BoardEvent}
+use Rattle.std.proofs.Common.{◌≡◌, true, sym, subst}
 use Rattle.rvm_board.specs.Guest.{Guest}
 use Rattle.rvm_guest.proofs.TheGuest.{board_laws}
 use Rattle.rvm_guest.specs.TheGuest.{board}
@@ -8,7 +7,6 @@ use Rattle.rvm_guest.specs.Valid.{is_valid}
 use Rattle.rvm_protocol.proofs.Course.{course_law_from_any_world, past_law}
 use Rattle.rvm_protocol.specs.Course.{InEachState, NeverMoves, PastIsTrue, RunsNeverMoveFromAnyWorld, RunsTellTheirPast}
 use Rattle.rvm_protocol.specs.Shown.{Shown}
-use Rattle.rvm_protocol.specs.World.{Event}
 use Rattle.rvm_core.specs.NeverMoved.{NeverMoved, TellsItsPast}
 use Rattle.rvm_core.specs.Worlds.{BoardWorld, IsReached}
 

@@ -1,5 +1,5 @@
 -- Which commands a host refuses.
-use Rattle.std.proofs.Common.{◌≡◌, ℕ, ◌-◌, ◌^◌, ◌==◌, Bool, true, false, not, ◌&&◌, ◌||◌, if◌then◌else◌, refl, sym, ap, ◌∙◌, subst}
+use Rattle.std.proofs.Common.{◌≡◌, ℕ, ◌-◌, ◌^◌, ◌==◌, Bool, true, false, not, ◌&&◌, ◌||◌, if◌then◌else◌, refl, ◌∙◌}
 use Rattle.rvm_board.specs.Guest.{Guest, GuestState}
 use Rattle.rvm_guest.specs.TheGuest.{board}
 use Rattle.rvm_message.specs.Answers.{BoardOutcome}
@@ -13,7 +13,7 @@ use Rattle.rvm_protocol.specs.Commands.{Policy, Begin, Do, is_allowed}
 use Rattle.rvm_protocol.specs.Host.{is_there, obey_at}
 use Rattle.rvm_protocol.specs.Modes as protocol
 use Rattle.rvm_protocol.specs.Modes.{refuses}
-use Rattle.rvm_protocol.specs.Obeying.{abort, begin, begin_allowed, begun, obey}
+use Rattle.rvm_protocol.specs.Obeying.{abort, begin, begun, obey}
 use Rattle.rvm_protocol.specs.Replies.{BadHost, BadSize, EpochsSpent}
 use Rattle.rvm_source.specs.Sources as source
 use Rattle.rvm_source.specs.Sources.{PlainSource, mode_in}

@@ -1,6 +1,6 @@
 -- How an audit of journals ended.
-use Rattle.std.proofs.Common.{arith, ◌≡◌, ◌∙◌, ℕ, zero, suc, Bool, true, false, List, [], ◌∷◌, ◌++◌, ◌+◌, Global, Vec, map, length, length-append, Option, Some, None, Result, Ok, Err, codes, refl, sym, ap, subst, inl, inr}
-use Rattle.std.specs.Prelude.{IfOk, IfErr, OnErr, slice_get}
+use Rattle.std.proofs.Common.{arith, ◌≡◌, ◌∙◌, ℕ, zero, suc, Bool, true, false, List, [], ◌∷◌, ◌++◌, ◌+◌, Global, Vec, length, length-append, Option, Some, Result, Ok, Err, codes, refl, ap, subst, inl, inr}
+use Rattle.std.specs.Prelude.{IfOk, OnErr, slice_get}
 use Rattle.std.specs.Io.KnownBytes.{Appends}
 use denote.Ref.{Bor}
 use Rattle.rvm_audit.specs.Audits.{IsAudit, histories_of}
@@ -10,7 +10,7 @@ use Rattle.rvm_audit.specs.Orders.{IsDeadEnd, IsOrder, Journals, cut}
 use Rattle.rvm_audit.specs.Parts.{taken}
 use Rattle.rvm_audit.specs.Rule.{IsMerge}
 use Rattle.rvm_audit.specs.Worlds.{AreNew, IsWorldRun}
-use Rattle.rvm_audit.specs.declared.list.Audit.TheVariants.{NoOrder, Order}
+use Rattle.rvm_audit.specs.declared.list.Audit.TheVariants.{NoOrder}
 use Rattle.rvm_audit.specs.declared.part.Place.{Place}
 use Rattle.rvm_board.specs.Guest.{GuestState}
 use Rattle.rvm_command.specs.Command.{refused_text}
@@ -21,13 +21,12 @@ use Rattle.rvm_guest.specs.Valid.{is_valid}
 use Rattle.rvm_protocol.specs.World.{new_world}
 use Rattle.rvm_recorder.specs.History.{History, Recording}
 use Rattle.rvm_refusal.specs.declared.refusal.Refusal.TheVariants as refusal
-use Rattle.rvm_replay.specs.Audited.{AreReplayed, IsOrdered, IsWritten, journals_in}
-use Rattle.rvm_replay.specs.Findings.{AreRefuted, AreUndecided, EndsAt, HasAuditStatus, HasFindingStatus, IsFaultTold, IsFinding, IsUntoldAudit, IsUntoldFinding, cuts_of, histories_in, is_cut, name_of, refuted_text, undecided_text}
+use Rattle.rvm_replay.specs.Audited.{AreReplayed, IsWritten, journals_in}
+use Rattle.rvm_replay.specs.Findings.{EndsAt, HasAuditStatus, HasFindingStatus, IsFaultTold, IsFinding, IsUntoldAudit, IsUntoldFinding, cuts_of, histories_in, is_cut, name_of, refuted_text, undecided_text}
 use Rattle.rvm_replay.specs.FileFaults.{fault_line}
 use Rattle.rvm_replay.specs.Unaudited.{IsJournalsFault}
 use Rattle.rvm_replay.specs.declared.audit.AuditText.{AuditText}
-use Rattle.rvm_replay.specs.declared.audit.Finding.{Finding}
-use Rattle.rvm_replay.specs.declared.audit.Finding.TheVariants.{Contradicted, InOrder, Undecided}
+use Rattle.rvm_replay.specs.declared.audit.Finding.TheVariants.{Contradicted, Undecided}
 use Rattle.rvm_replay.specs.declared.file.JournalFile.{JournalFile}
 use Rattle.rvm_replay.specs.declared.file.JournalsFault.{JournalsFault}
 use Rattle.rvm_replay.specs.declared.file.JournalsFault.TheVariants as journals

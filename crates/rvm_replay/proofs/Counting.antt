@@ -1,11 +1,9 @@
 -- What entries add to counts.
-use Rattle.std.proofs.Common.{◌≡◌, ◌∙◌, ℕ, zero, suc, ◌+◌, ◌*◌, ◌≤◌, ◌<◌, List, [], ◌∷◌, ◌++◌, append_assoc, append-nil, arith, flat_map, get_or, length, mul-suc, suc-mul, sum_by, take, refl, sym, ap}
+use Rattle.std.proofs.Common.{◌≡◌, ◌∙◌, ℕ, zero, suc, ◌+◌, ◌*◌, ◌<◌, List, [], ◌∷◌, ◌++◌, arith, get_or, length, mul-suc, suc-mul, sum_by, take, refl, sym, ap}
 use Rattle.std.proofs.lemmas.List.{take_more}
-use Rattle.std.proofs.lemmas.List.Concat.{flat_map-append}
 use Rattle.std.proofs.lemmas.List.Sums.{sum_by-append, sum_by-cons}
 use Rattle.rvm_recorder.specs.Entries.{PlainEntry}
-use Rattle.rvm_recorder.specs.Items.{all_of, dry_entry, rounds_in_turn, rounds_of, step_entry, steps_in_turn}
-use Rattle.rvm_recorder.specs.declared.rounds.Rounds.{Rounds}
+use Rattle.rvm_recorder.specs.Items.{all_of, dry_entry, rounds_in_turn, step_entry, steps_in_turn}
 use Rattle.rvm_message.specs.declared.step.StepReply.{StepReply}
 use Rattle.rvm_message.specs.declared.step.StepReply.TheVariants as step
 use Rattle.rvm_message.specs.Steps.{reply_to_step}

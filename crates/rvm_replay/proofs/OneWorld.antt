@@ -1,6 +1,6 @@
 -- The hosts that journals are of are those of a new world.
-use Rattle.std.proofs.Common.{◌≡◌, ◌∙◌, ℕ, ◌<◌, ◌==◌, ◌||◌, Bool, true, false, if◌then◌else◌, is_some, List, [], arith, get_or, length, map, Option, Some, None, Result, Ok, Err, refl, sym, ap, subst}
-use Rattle.std.specs.Prelude.{IfOk, slice_get}
+use Rattle.std.proofs.Common.{◌≡◌, ◌∙◌, ℕ, ◌<◌, ◌==◌, ◌||◌, Bool, true, false, if◌then◌else◌, is_some, List, get_or, length, Option, Some, None, Result, Ok, Err, refl, sym, ap, subst}
+use Rattle.std.specs.Prelude.{IfOk}
 use Rattle.std.proofs.lemmas.Bool.{eq-eqb, eqb-true, true≢false}
 use Rattle.std.proofs.lemmas.List.{get_or-map, length-map}
 use Rattle.std.proofs.lemmas.Option.{same_Some, slice_get-get_or}
@@ -13,7 +13,7 @@ use Rattle.rvm_recorder.specs.History.{History, Recording}
 use Rattle.rvm_core.specs.declared.event.Event.{Event}
 use Rattle.rvm_audit.specs.ListOrders.{no_history}
 use Rattle.rvm_audit.specs.Orders.{IsOrder, Journals}
-use Rattle.rvm_audit.specs.Worlds.{AreNew, IsWorldRun, knows_hosts}
+use Rattle.rvm_audit.specs.Worlds.{AreNew, IsWorldRun}
 use Rattle.rvm_journal.specs.declared.header.Header.{Header}
 use Rattle.rvm_journal.specs.declared.header.Image.{Image}
 use Rattle.rvm_replay.specs.declared.audit.AuditText.{AuditText}

@@ -1,6 +1,5 @@
-use Rattle.std.proofs.Common.{◌≡◌, ◌∙◌, ◌+◌, ◌∷◌, length, drop, ap, sym, arith}
+use Rattle.std.proofs.Common.{◌∙◌, ◌+◌, ◌∷◌, drop, ap, sym, arith}
 use Rattle.std.proofs.lemmas.List.{drop_more}
-use Rattle.rvm_recorder.specs.Runs.{all_of}
 use Rattle.rvm_recorder.proofs.Tellings.{count_left}
 use Rattle.rvm_cell.proofs.steps.count_of.Goals as goal
 

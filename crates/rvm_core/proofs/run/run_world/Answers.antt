@@ -1,4 +1,4 @@
-use Rattle.std.proofs.Common.{◌≡◌, ◌∙◌, [], ◌∷◌, ◌++◌, ap, map, subst, sym}
+use Rattle.std.proofs.Common.{◌≡◌, ◌∙◌, [], ◌∷◌, ◌++◌, ap, subst, sym}
 use Rattle.rvm_guest.specs.TheGuest.{board}
 use Rattle.rvm_core.specs.Worlds.{meant, said, world_of}
 use Rattle.rvm_core.proofs.Places.{Placing, all_placed, none_placed, one_placed}

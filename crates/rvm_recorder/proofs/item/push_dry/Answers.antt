@@ -1,4 +1,4 @@
-use Rattle.std.proofs.Common.{◌∷◌, [], ◌∙◌}
+use Rattle.std.proofs.Common.{◌∷◌, []}
 use Rattle.rvm_recorder.specs.Items.{all_of, dry_entry, rounds_of}
 use Rattle.rvm_recorder.proofs.StepRuns.{both_in}
 use Rattle.rvm_recorder.proofs.InRounds.{dry_alone, rounded_in}

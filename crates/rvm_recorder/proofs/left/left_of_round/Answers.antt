@@ -1,4 +1,4 @@
-use Rattle.std.proofs.Common.{◌∙◌, ◌+◌, ◌%◌, ◌≤◌, arith}
+use Rattle.std.proofs.Common.{◌∙◌, arith}
 use Rattle.rvm_recorder.specs.Items.{rounds_of}
 use Rattle.rvm_recorder.proofs.InRounds.{none_passed, passed, row_fits, row_inside}
 use Rattle.rvm_recorder.proofs.left.left_of_round.Goals as goal

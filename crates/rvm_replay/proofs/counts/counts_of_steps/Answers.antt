@@ -1,4 +1,4 @@
-use Rattle.std.proofs.Common.{◌≡◌, ◌∙◌, ap}
+use Rattle.std.proofs.Common.{◌∙◌, ap}
 use Rattle.rvm_replay.specs.Counts.{counts_of, plus}
 use Rattle.rvm_replay.proofs.Counting.{of_turns, steps_add}
 use Rattle.rvm_replay.proofs.counts.counts_of_steps.Goals as goal

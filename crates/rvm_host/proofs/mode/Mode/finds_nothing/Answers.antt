@@ -4,7 +4,6 @@ use Rattle.rvm_guest.specs.TheGuest.{board}
 use Rattle.rvm_message.specs.Answers.{Answers}
 use Rattle.rvm_message.specs.Exchanges.{dry_exchange}
 use Rattle.rvm_protocol.specs.Obeying as obeying
-use Rattle.rvm_source.specs.Sources as source
 use Rattle.rvm_host.specs.declared.mode.Mode.{Mode}
 use Rattle.rvm_host.specs.Modes.{mode_of, plain_of}
 use Rattle.rvm_host.proofs.Drying.{run_dry}

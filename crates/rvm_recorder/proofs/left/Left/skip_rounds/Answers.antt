@@ -1,4 +1,4 @@
-use Rattle.std.proofs.Common.{◌≡◌, ◌∙◌, ◌+◌, ◌++◌, drop, take, ap, refl, sym, arith}
+use Rattle.std.proofs.Common.{◌≡◌, ◌∙◌, ◌+◌, ◌++◌, drop, take, ap, sym, arith}
 use Rattle.std.proofs.lemmas.List.{drop_more}
 use Rattle.rvm_recorder.proofs.InRounds.{first_passed}
 use Rattle.rvm_recorder.proofs.left.Left.skip_rounds.Goals as goal

@@ -1,4 +1,4 @@
-use Rattle.std.proofs.Common.{◌∙◌, ap, refl, sym, subst}
+use Rattle.std.proofs.Common.{ap, refl, sym, subst}
 use Rattle.rvm_message.specs.Answers.{Answers, BoardOutcome}
 use Rattle.rvm_message.specs.Frames.{frame_made}
 use Rattle.rvm_message.specs.Replies.{reply_of}

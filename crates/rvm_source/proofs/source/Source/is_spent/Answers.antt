@@ -1,4 +1,4 @@
-use Rattle.std.proofs.Common.{◌≡◌, ◌∙◌, ap, sym, subst}
+use Rattle.std.proofs.Common.{◌≡◌, ◌∙◌, sym, subst}
 use Rattle.rvm_guest.specs.TheGuest.{board}
 use Rattle.rvm_message.specs.Replies.{is_seq_spent}
 use Rattle.rvm_protocol.specs.Obeying.{copy}

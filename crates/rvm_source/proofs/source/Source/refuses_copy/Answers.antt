@@ -1,4 +1,4 @@
-use Rattle.std.proofs.Common.{◌≡◌, ◌∙◌, inl, inr, ap, sym}
+use Rattle.std.proofs.Common.{◌∙◌, inl, inr, ap, sym}
 use Rattle.rvm_source.specs.Sources.{PlainSource}
 use Rattle.rvm_source.proofs.Refusing.{paused_refused, running_refused}
 use Rattle.rvm_source.proofs.source.Source.refuses_copy.Goals as goal
