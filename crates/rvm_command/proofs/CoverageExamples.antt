@@ -1,7 +1,7 @@
 -- Known coverages: which steps count, at which word, and how a number is written before its line.
-use Rattle.std.proofs.Common.{◌≡◌, ◌∷◌, ◌++◌, ℕ, false, List, [], None, refl, codes}
+use Rattle.std.proofs.Common.{◌≡◌, ◌∷◌, ℕ, List, [], None, refl, codes}
 use Rattle.std.specs.Fmt.{digits}
-use Rattle.rvm_asm.specs.Images.{Piece, piece}
+use Rattle.rvm_asm.specs.Images.{piece}
 use Rattle.rvm_board.specs.Board.{at_reset}
 use Rattle.rvm_board.specs.Guest.{Guest, fresh}
 use Rattle.rvm_board.specs.declared.event.BoardReply.TheVariants.{Break, Interrupted, Retired}
@@ -12,8 +12,7 @@ use Rattle.rvm_hart.specs.Rows.{effect}
 use Rattle.rvm_isa.specs.Table as isa
 use Rattle.rvm_text.specs.Registers.{abi_names, name_of}
 use Rattle.rvm_word.specs.Word.{signed_value}
-use Rattle.rvm_command.specs.Coverage.{counted_line, counted_lines, counted_listing, coverage, in_ten, runs_at}
-use Rattle.rvm_command.specs.Faults.{first_fault, latest_fault}
+use Rattle.rvm_command.specs.Coverage.{counted_lines, counted_listing, coverage, in_ten, runs_at}
 use Rattle.rvm_command.specs.Run.{after, run_by}
 use Rattle.rvm_command.specs.Taken.{Taken, steps_in}
 use Rattle.rvm_command.specs.Watched.{steps_of_run}

@@ -1,11 +1,11 @@
 -- How often words ran.
-use Rattle.std.proofs.Common.{◌≡◌, ◌⊎◌, ℕ, zero, suc, ◌+◌, ◌-◌, ◌*◌, ◌/◌, ◌%◌, ◌^◌, ◌<◌, ◌≤◌, List, [], ◌∷◌, ◌++◌, Option, None, Some, length, take, drop, get_or, replicate, Bool, true, false, refl, sym, ap, subst, ◌∙◌, inl, inr, arith, append_assoc, append-nil, cond, nat_eq, nat_lt, nat_le, length-append}
+use Rattle.std.proofs.Common.{◌≡◌, ◌⊎◌, ℕ, zero, suc, ◌+◌, ◌-◌, ◌*◌, ◌%◌, ◌^◌, ◌<◌, ◌≤◌, List, [], ◌∷◌, ◌++◌, Option, None, Some, length, take, drop, get_or, replicate, Bool, true, false, refl, sym, ap, subst, ◌∙◌, inl, inr, arith, append-nil, cond, nat_eq, nat_lt, nat_le}
 use Rattle.std.proofs.lemmas.Bool.{and_from, and_parts, cases_eq, eq-eqb, eqb-true, le-leb, leb-false, leb-true, lt-ltb, ltb-true, ne_eqb}
 use Rattle.std.proofs.lemmas.List.{drop_all, drop_more, length-drop, get_or-set_same, get_or-set_other, get_or-replicate, length-set, length-replicate}
 use Rattle.std.proofs.lemmas.List.Sums.{sum_by_push, count_by-le-length}
-use Rattle.std.specs.Prelude.{IfOk, Result, Ok, Err, slice_set, count_by, ◌&&◌, ◌==◌}
+use Rattle.std.specs.Prelude.{IfOk, Result, Ok, Err, slice_set, ◌&&◌, ◌==◌}
 use Rattle.std.specs.List.{repeat}
-use Rattle.std.specs.Fmt.{char_count, decimal, digits, format_spec, padded_integral}
+use Rattle.std.specs.Fmt.{char_count, digits, format_spec, padded_integral}
 use Rattle.byteorder.specs.Endian.{little_number}
 use Rattle.rvm_asm.specs.declared.image.Segment.{Segment}
 use Rattle.rvm_asm.specs.Images.{Piece, pieces_of, size}

@@ -1,5 +1,5 @@
 -- Numbers that are drawn.
-use Rattle.std.proofs.Common.{◌≡◌, ℕ, refl}
+use Rattle.std.proofs.Common.{◌≡◌, refl}
 use Rattle.rvm_command.specs.Order.{number_drawn}
 
 -- the numbers that are published for SplitMix64 with the seed 1234567

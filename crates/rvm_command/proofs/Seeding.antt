@@ -1,8 +1,8 @@
 -- Runs by one seed after the other.
-use Rattle.std.proofs.Common.{◌≡◌, ◌⊎◌, ◌∙◌, ◌+◌, ◌<◌, ◌≤◌, ◌==◌, Bool, true, false, ℕ, zero, suc, List, length, Option, None, Some, Result, Ok, Err, ap, arith, inl, inr, refl, subst, sym}
+use Rattle.std.proofs.Common.{◌≡◌, ◌⊎◌, ◌∙◌, ◌+◌, ◌<◌, ◌≤◌, ◌==◌, Bool, true, false, ℕ, List, length, Option, None, Some, Result, Ok, Err, ap, arith, inl, inr, subst, sym}
 use Rattle.std.proofs.lemmas.Bool.{cases_lt, eqb-true}
 use Rattle.std.specs.Io.KnownBytes.{Appends}
-use Rattle.std.specs.Prelude.{IfOk, OnOk}
+use Rattle.std.specs.Prelude.{IfOk}
 use Rattle.rvm_asm.specs.Images.{Piece}
 use Rattle.rvm_board.specs.Guest.{Guest}
 use Rattle.rvm_refusal.specs.declared.refusal.Refusal.TheVariants.{LinkFault}
@@ -13,7 +13,7 @@ use Rattle.rvm_command.specs.Command.{FileImage, guest_of, image_of}
 use Rattle.rvm_command.specs.Ends.{IsLoadable}
 use Rattle.rvm_command.specs.Refusals.{refused}
 use Rattle.rvm_command.specs.Seeds.{AreUnwritten, IsFirstFailure, IsOrdersEnd, IsSeededEnd, PassBelow, verdict_of}
-use Rattle.rvm_command.specs.Watched.{Watched, run_with}
+use Rattle.rvm_command.specs.Watched.{run_with}
 
 -- a run without a trace that had something to write has output
 pub some_output : (n : ℕ) → (0 < n) ⊎ (0 < 0) → 0 < n

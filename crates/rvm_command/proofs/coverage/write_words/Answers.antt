@@ -1,4 +1,4 @@
-use Rattle.std.proofs.Common.{◌≡◌, ◌∙◌, ◌++◌, ◌+◌, ◌%◌, ◌^◌, codes, [], sym, ap, arith, refl, append_assoc, append-nil, subst, take}
+use Rattle.std.proofs.Common.{◌≡◌, ◌∙◌, ◌++◌, ◌+◌, ◌%◌, ◌^◌, [], sym, ap, arith, refl, append_assoc, append-nil, subst, take}
 use Rattle.std.specs.Io.KnownBytes.{Appends}
 use Rattle.byteorder.specs.Endian.{little_number}
 use Rattle.rvm_command.specs.Counting.{number_at}
