@@ -3,7 +3,7 @@
 //! file has more bytes than it may have, or if memory runs out; all other refusals are reported by the command over
 //! values.
 
-ghost use Rattle.std.specs.Prelude.{◌≡◌, ◌⊎◌, None, Result, IfErr, IfOk, OnErr};
+ghost use Rattle.std.specs.Prelude.{◌≡◌, ◌≢◌, ◌⊎◌, None, Result, IfErr, IfOk, OnErr, true};
 ghost use Rattle.either.specs.Either.{either};
 ghost use Rattle.rvm_arguments.specs.declared.arguments.Arguments.TheVariants as asks;
 ghost use Rattle.rvm_refusal.specs.declared.refusal.Refusal.TheVariants as refusal;
@@ -12,6 +12,7 @@ ghost use Rattle.std.specs.Io.KnownBytes.{Appends};
 ghost use Rattle.rvm_command.specs.declared.refused.Refused.{Refused};
 ghost use Rattle.rvm_command.specs.declared.run.Ended.{Ended};
 ghost use Rattle.rvm_command.specs.Ends.{RunHasStatus};
+ghost use Rattle.rvm_host_command.specs.Hosted.{IsHostedTo};
 ghost use Rattle.rvm_program.specs.Ended.{AsmEnded, AuditEnded, DebugEnded, DisEnded, HasRunTo, HostEnded, IsNamedFile, MoveEnded, RunEnded, ScriptEnded, TellEnded, ToTell, report_name, trace_name, written};
 ghost use Rattle.rvm_files.specs.Files.{IsFile, IsFileRefusal, IsFirst, IsFirstInput, IsImage, IsInput, IsLong, IsLongInput, IsLongSymbols, IsRefusedFile, IsUnread, file_text, max_size, symbols_name};
 
@@ -416,24 +417,41 @@ where
         (written (O.contents output.old) (O.contents output.new))) }
 {
     match read_host(rt, files, arguments) {
-        Ok(read) => {
-            let bytes = HostBytes {
-                peers: read.peers.as_slice(),
-                image: read.image.as_slice(),
-                secret: read.secret.as_deref(),
-            };
-            host_command::<M, O, E, Rt>(
-                rt,
-                rt.alloc(),
-                arguments,
-                &bytes,
-                &read.input,
-                output,
-                errors,
-            )
-        }
+        Ok(read) => work_at_host::<M, Rt, O, E>(rt, arguments, &read, output, errors),
         Err((path, why)) => tell_file(path, why, errors),
     }
+}
+
+/// Runs a host whose files are read.
+fn work_at_host<
+    M: PagedMemory + Drop + Send,
+    Rt: System + Net + Threads + Wait + 'static,
+    O: Write,
+    E: Write,
+>(rt: &Rt, arguments: &HostArguments, read: &HostFiles, output: &mut O, errors: &mut E) -> Told
+where
+    Rt::Stream: Send,
+    Rt::Listener: Send + Sync,
+    Rt::File: Send,
+    ensures status { IfOk result (λ status. (status ≡ 0) ⊎ (status ≡ 1)
+        ⊎ ((status ≡ 3) × (arguments.now.verdict ≡ true))) }
+    ensures done { IfOk result (λ status. status ≢ 1 → IsHostedTo arguments.now read.now.peers.items
+        read.now.image.items status (O.contents output.old) (O.contents output.new)) }
+{
+    let bytes = HostBytes {
+        peers: read.peers.as_slice(),
+        image: read.image.as_slice(),
+        secret: read.secret.as_deref(),
+    };
+    host_command::<M, O, E, Rt>(
+        rt,
+        rt.alloc(),
+        arguments,
+        &bytes,
+        &read.input,
+        output,
+        errors,
+    )
 }
 
 /// What the files of a host hold.

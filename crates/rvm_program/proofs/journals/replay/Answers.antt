@@ -1,7 +1,15 @@
 use Rattle.std.proofs.Common.{ℕ}
 use Rattle.rvm_program.specs.Ended.{HasReplayed, Written, written}
-use Rattle.rvm_program.proofs.ReplayEnds.{file_untold, replay_untold}
+use Rattle.rvm_program.proofs.ReplayEnds.{file_untold, replay_ended, replay_untold}
 use Rattle.rvm_program.proofs.journals.replay.Goals as goal
+
+pub returns-in-Ok-clause-ended : goal.returns-in-Ok-clause-ended
+returns-in-Ok-clause-ended g c =
+    replay_ended (g.F.NamedFiles.bytes_of c.args.files.now) c.args.arguments.now c.in-Ok.read.journal.items
+    c.in-Ok.read.image.items (g.I.Read.remaining c.args.input.now)
+    (written (g.O.Write.contents c.args.output.now) (g.O.Write.contents c.replay_read.new.output))
+    c.in-Ok.ensures.journal c.in-Ok.ensures.image c.replay_read.result
+    (written (g.E.Write.contents c.args.errors.now) (g.E.Write.contents c.replay_read.new.errors)) c.replay_read.ensures.ended
 
 pub returns-in-Ok-clause-untold : goal.returns-in-Ok-clause-untold
 returns-in-Ok-clause-untold g c =
