@@ -269,4 +269,6 @@ pub struct AuditJournalsArguments<'a> {
     pub image: &'a str,
     /// Whether the order is written, a line for each event, in place of a summary.
     pub order: bool,
+    /// The file to which a chart of the order is written, in place of a summary, if there is one.
+    pub chart: Option<&'a str>,
 }

@@ -21,5 +21,6 @@ pub mod Passages
 pub mod Kept
 pub mod Passed
 pub mod OrderLines
+mod Pieces
 pub mod Two
 mod Keys

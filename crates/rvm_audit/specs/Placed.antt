@@ -1,9 +1,11 @@
 -- Events in order, with steps and rounds kept as runs.
-use Rattle.std.specs.Prelude.{ℕ, zero, suc, ◌+◌, ◌%◌, List, [], ◌∷◌, ◌++◌, drop}
+use Rattle.std.specs.Prelude.{◌≡◌, ℕ, zero, suc, ◌+◌, ◌%◌, ◌<◌, List, [], ◌∷◌, ◌++◌, Option, Some, None, drop, map}
 use Rattle.rvm_board.specs.declared.event.BoardEvent.TheVariants.{Drain, Step}
 use Rattle.rvm_message.specs.declared.event.Command.TheVariants.{Board}
 use Rattle.rvm_core.specs.declared.event.Event.{Event}
 use Rattle.rvm_core.specs.declared.event.Event.TheVariants.{At}
+use Rattle.rvm_audit.specs.declared.placed.Piece.{Piece}
+use Rattle.rvm_audit.specs.declared.placed.Piece.TheVariants as piece
 use Rattle.rvm_audit.specs.declared.placed.Placed.{Placed}
 use Rattle.rvm_audit.specs.declared.placed.Placed.TheVariants as placed
 
@@ -35,3 +37,33 @@ all_events (p ∷ ps) = events_of p ++ all_events ps
 abbrev pub events_behind : List Placed → ℕ → List Event
 events_behind [] k = []
 events_behind (p ∷ ps) k = drop k (events_of p) ++ all_events ps
+
+-- what a host is asked for while it makes turns: a step of a hart, or else a drain of at most so many bytes
+abbrev pub asked_at : (host drain : ℕ) → (hart : Option ℕ) → Event
+asked_at host drain (Some hart) = At host (Board (Step hart))
+asked_at host drain None = At host (Board (Drain drain))
+
+-- how many of these are steps
+abbrev pub turns_in : List (Option ℕ) → ℕ
+turns_in [] = 0
+turns_in (Some hart ∷ asked) = suc (turns_in asked)
+turns_in (None ∷ asked) = turns_in asked
+
+-- events are so many turns of a host, one or more, and the drains between them and after them
+pub record AreTurns (host turns : ℕ) (events : List Event) : Type 0 where
+  pub drain : ℕ
+  pub asked : List (Option ℕ)
+  pub events_are : events ≡ map (asked_at host drain) asked
+  pub turns_are : turns_in asked ≡ turns
+  pub some : 0 < turns
+
+-- events begin with so many turns of a host
+pub record BeginsWith (host turns : ℕ) (events rest : List Event) : Type 0 where
+  pub run : List Event
+  pub are : AreTurns host turns run
+  pub split : events ≡ run ++ rest
+
+-- events begin with a piece, and these are behind it
+abbrev pub IsPiece : Piece → (events rest : List Event) → Type 0
+IsPiece (piece.Event e) events rest = events ≡ e ∷ rest
+IsPiece (piece.Turns t) events rest = BeginsWith t.host t.turns events rest

@@ -32,4 +32,4 @@ pub use lines::write_order;
 pub use list::{Audit, audit_all};
 pub use order::{audit, audit_in_runs, dead_ends_have_no_order, the_guest_of_an_order_never_moves};
 pub use part::Place;
-pub use placed::{Events, Order};
+pub use placed::{Events, HostTurns, Order, Piece};

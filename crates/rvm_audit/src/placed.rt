@@ -1,7 +1,7 @@
 //! Events in order. Steps and rounds are kept as the runs that they are in a journal.
 
-ghost use Rattle.std.specs.Prelude.{◌≡◌, ◌∷◌, ◌++◌, ◌+◌, ◌<◌, ◌^◌, [], IfOk, IfSome, MatchOption, OnOk, Some, slice_get};
-ghost use Rattle.rvm_audit.specs.Placed.{all_events, events_of, rounds_at, steps_at};
+ghost use Rattle.std.specs.Prelude.{◌≡◌, ◌∷◌, ◌++◌, ◌+◌, ◌*◌, ◌<◌, ◌^◌, [], IfOk, IfSome, MatchOption, OnOk, Some, slice_get};
+ghost use Rattle.rvm_audit.specs.Placed.{AreTurns, BeginsWith, IsPiece, all_events, events_behind, events_of, rounds_at, steps_at};
 ghost use Rattle.rvm_message.specs.declared.event.Command.{Command};
 ghost use Rattle.rvm_message.specs.declared.event.HostEvent.TheVariants.{Do};
 ghost use Rattle.rvm_core.specs.declared.event.Event.TheVariants.{At};
@@ -103,6 +103,24 @@ fn push_placed(items: &mut Vec<Placed>, placed: Placed) -> Result<(), AllocError
     Ok(())
 }
 
+/// What comes next in an order.
+#[derive(Drop)]
+pub enum Piece {
+    /// One event.
+    Event(Event),
+    /// Consecutive turns of a host, one or more, with the drains between them and after them.
+    Turns(HostTurns),
+}
+
+/// Consecutive turns of a host: steps of its harts, one after the other.
+#[derive(Clone, Copy, Debug, PartialEq, Eq)]
+pub struct HostTurns {
+    /// The number of the host.
+    pub host: u8,
+    /// How many turns there are.
+    pub turns: u32,
+}
+
 /// The events of an order that have not been returned yet.
 #[derive(Drop)]
 pub struct Events<'a> {
@@ -138,6 +156,94 @@ impl<'a> Events<'a> {
         }
         None
     }
+
+    /// Returns the next event, or all turns of the run that it begins, if it is the first of one; none if all events have
+    /// been returned.
+    #[tactic(auto, using(crate::proofs::Pieces::begins_behind))]
+    pub fn next_piece(&mut self) -> Option<Piece>
+        ensures { MatchOption result (self.old ≡ []) (λ p. IsPiece p self.old self.new) }
+    {
+        let (items, skipped) = unfinished(self.items, self.skipped);
+        if skipped == 0 {
+            if let Some((turns, rest)) = first_turns(items) {
+                *self = Events {
+                    items: rest,
+                    skipped: 0,
+                };
+                return Some(Piece::Turns(turns));
+            }
+        }
+        match self.next() {
+            Some(event) => Some(Piece::Event(event)),
+            None => None,
+        }
+    }
+}
+
+/// What is left of an order, without its first piece if all events of that have been returned.
+#[tactic(auto, using(crate::proofs::Pieces::without_first))]
+fn unfinished(items: &[Placed], skipped: u32) -> (&[Placed], u32)
+    ensures { events_behind result.0.now result.1 ≡ events_behind items.now skipped }
+{
+    match items.split_first() {
+        Some((placed, rest)) if event_at(placed, skipped).is_none() => (rest, 0),
+        _ => (items, skipped),
+    }
+}
+
+/// The turns of the first piece of an order, if it has some, and what comes after it.
+#[tactic(auto, using(crate::proofs::Pieces::begins))]
+fn first_turns(items: &[Placed]) -> Option<(HostTurns, &[Placed])>
+    ensures { IfSome result (λ r. BeginsWith r.0.host r.0.turns (all_events items.now) (all_events r.1.now)) }
+{
+    let (placed, rest) = items.split_first()?;
+    let turns = turns_in(placed)?;
+    Some((turns, rest))
+}
+
+/// The turns of one piece of an order, if it has some.
+fn turns_in(placed: &Placed) -> Option<HostTurns>
+    ensures { IfSome result (λ t. AreTurns t.host t.turns (events_of placed.now)) }
+{
+    match placed {
+        Placed::Event(_event) => None,
+        Placed::Steps(host, steps) => turns_of_steps(*host, steps),
+        Placed::Rounds(host, rounds) => turns_of_rounds(*host, rounds),
+    }
+}
+
+/// The turns of a host's steps, if there are some.
+#[tactic(auto, using(crate::proofs::Pieces::steps_are_turns))]
+fn turns_of_steps(host: u8, steps: &Steps) -> Option<HostTurns>
+    ensures { IfSome result (λ t. AreTurns t.host t.turns
+        (steps_at host steps.now.turn steps.now.harts steps.now.count)) }
+{
+    if steps.count == 0 {
+        return None;
+    }
+    let turns = steps.count;
+    Some(HostTurns { host, turns })
+}
+
+/// The turns of a host's rounds, if there are some.
+#[tactic(auto, using(crate::proofs::Pieces::rounds_are_turns))]
+fn turns_of_rounds(host: u8, rounds: &Rounds) -> Option<HostTurns>
+    ensures { IfSome result (λ t. AreTurns t.host t.turns (rounds_at host rounds.now.turn rounds.now.harts
+        rounds.now.steps rounds.now.drain rounds.now.count)) }
+{
+    let turns = turn_count(rounds);
+    if turns == 0 {
+        return None;
+    }
+    Some(HostTurns { host, turns })
+}
+
+/// How many turns rounds have.
+#[tactic(auto, using(crate::proofs::Pieces::without_drains))]
+fn turn_count(rounds: &Rounds) -> u32
+    ensures { result ≡ rounds.now.count * rounds.now.steps }
+{
+    rounds.len() - rounds.count
 }
 
 /// The event of one piece of an order with this index, from 0; none past the last.

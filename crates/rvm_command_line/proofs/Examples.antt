@@ -95,3 +95,8 @@ an_audit_has_all_its_journals = refl
 pub an_audit_has_its_image : value audit_words (codes "image") ≡ Some (Some (codes "c"))
 unfolding walked
 an_audit_has_its_image = refl
+
+pub a_chart_has_a_file : value (codes "rvmove" ∷ codes "audit-journals" ∷ codes "a" ∷ codes "--image" ∷ codes "c" ∷ codes "--chart" ∷ codes "b" ∷ [])
+    (codes "chart") ≡ Some (Some (codes "b"))
+unfolding walked
+a_chart_has_a_file = refl

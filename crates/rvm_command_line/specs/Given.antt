@@ -211,11 +211,13 @@ pub record IsReplay (rows : List Row) (asked : ReplayArguments) : Type 0 where
   pub until : IsOptionalNumber (first_of (codes "until") rows) asked.until
   pub script : first_of (codes "script") rows ≡ option_map (λ s. s.now) asked.script
 
--- the journals of a world's hosts, the image of the guest that moves between them, and whether the order is written
+-- the journals of a world's hosts, the image of the guest that moves between them, whether the order is written, and the
+-- file of a chart of it, if one is named
 pub record IsAuditJournals (rows : List Row) (asked : AuditJournalsArguments) : Type 0 where
   pub journals : all_of (codes "journal") rows ≡ Some (map (λ s. s.now) asked.journals.items)
   pub image : first_of (codes "image") rows ≡ Some asked.image.now
   pub order : IsFlag (one_of (codes "order") rows) asked.order
+  pub chart : first_of (codes "chart") rows ≡ option_map (λ s. s.now) asked.chart
 
 -- what the words of a command with this name ask for
 abbrev pub Gives : Text → List Row → Arguments → Type 0

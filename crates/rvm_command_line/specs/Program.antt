@@ -200,9 +200,11 @@ abbrev pub audit_journals : App
 audit_journals =
     with_rule
     (with_rule
+    (with_rule
     (with_rule (new_app (codes "audit-journals")) (several (codes "journal")))
     (needed_option (codes "image")))
-    (flag (codes "order"))
+    (flag (codes "order")))
+    (option (codes "chart"))
 
 -- the program without its commands, which demands that one is named
 abbrev pub top : App

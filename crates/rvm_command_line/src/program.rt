@@ -167,7 +167,8 @@ Each JOURNAL is what `rvmove host --journal` wrote, 1 to 8 of them, each of anot
 whose journal is not given has done nothing. The hosts are made anew and do again what their journals tell;
 then one order of all events is looked for, in which each frame that came had been sent before.
 Standard output has a line for each host and one for all; with --order it has the events in that order, as a
-script that `rvmove script` takes.
+script that `rvmove script` takes. With --chart it has nothing: FILE gets a picture of the order in SVG, with
+the turns of the guest at each host, and what was asked of its moves.
 
 The status is 0 if there is such an order, 1 if there is none or if a journal is refused, 2 for a fault of the
 command line, and 3 if there is none and the reason may be that a journal was cut off: it has no line `end`.";
@@ -1001,7 +1002,8 @@ fn audit_journals_command<'a>(alloc: Global) -> Made<'a>
     );
     let command = with_arg(command, journals_argument(alloc));
     let command = with_arg(command, journals_image_option(alloc));
-    with_arg(command, order_flag(alloc))
+    let command = with_arg(command, order_flag(alloc));
+    with_arg(command, chart_option(alloc))
 }
 
 /// The words of `audit-journals` that name the files of journals.
@@ -1029,4 +1031,13 @@ fn order_flag<'a>(alloc: Global) -> Arg<'a>
 {
     let help = "Writes the events in their order, in place of a line for each host";
     flag(alloc, "order", help)
+}
+
+/// The option `--chart`: the file to which a chart of the order is written.
+fn chart_option<'a>(alloc: Global) -> Arg<'a>
+    ensures rule { rule_of result ≡ option (codes "chart") }
+    ensures local { result.global ≡ false }
+{
+    let help = "Writes a chart of the order to FILE, in place of a line for each host";
+    option(alloc, "chart", "FILE", help)
 }

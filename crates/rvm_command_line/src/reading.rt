@@ -715,11 +715,34 @@ fn read_audit_journals<'a>(
     let Some(image) = text(audit, "image") else {
         return Err("--image is missing");
     };
+    let order = flag(audit, "order");
+    let chart = text(audit, "chart");
+    check_chart(chart, order, image, names)?;
     Ok(AuditJournalsArguments {
         journals: read_journals(names)?,
         image,
-        order: flag(audit, "order"),
+        order,
+        chart,
     })
+}
+
+/// Fails with a text if a chart is asked for beside the order, or if its file is one that is read.
+fn check_chart(
+    chart: Option<&str>,
+    order: bool,
+    image: &str,
+    journals: &[&str],
+) -> Result<(), &'static str> {
+    let Some(chart) = chart else {
+        return Ok(());
+    };
+    if order {
+        return Err("--order and --chart exclude each other");
+    }
+    if chart == image || journals.iter().any(|journal| *journal == chart) {
+        return Err("the file of --chart is one that is read");
+    }
+    Ok(())
 }
 
 /// The files of journals with these names. Fails with a text if there are more than 8, or if a file is named twice.

@@ -1,5 +1,5 @@
 -- Journals that are read from files and audited.
-use Rattle.std.proofs.Common.{◌≡◌, ◌⊎◌, ◌<◌, ◌+◌, ℕ, zero, suc, List, [], ◌∷◌, ◌++◌, Option, Some, Result, Ok, Err, inl, inr, sym, subst, take, length, arith}
+use Rattle.std.proofs.Common.{◌≡◌, ◌<◌, ◌+◌, ℕ, zero, suc, List, [], ◌∷◌, ◌++◌, Option, None, Some, Result, Ok, Err, inl, inr, sym, subst, take, length, arith}
 use Rattle.std.specs.Prelude.{OnErr, get_or, slice_get}
 use Rattle.std.specs.Result.{IfOk}
 use Rattle.std.specs.Borrow.{Bor}
@@ -7,9 +7,10 @@ use Rattle.std.proofs.lemmas.Option.{none-some, same_Some, slice_get-get_or}
 use Rattle.rvm_arguments.specs.declared.arguments.AuditJournalsArguments.{AuditJournalsArguments}
 use Rattle.rvm_replay.specs.Findings.{HasAuditStatus, IsUntoldAudit}
 use Rattle.rvm_replay.specs.declared.audit.AuditText.{AuditText}
+use Rattle.rvm_replay.specs.declared.audit.AuditText.TheVariants.{Chart}
 use Rattle.rvm_replay.specs.declared.file.JournalFile.{JournalFile}
-use Rattle.rvm_program.specs.Ended.{AreAuditedTo, AreJournals, IsAuditEnd, IsJournal, IsNotBegun, IsOneMore, JournalsEnded, ToTell, Written, text_of, written}
-use Rattle.rvm_files.specs.Files.{IsFile, Named}
+use Rattle.rvm_program.specs.Ended.{AreAuditedTo, AreJournals, IsAuditEnd, IsDrawnEnd, IsJournal, IsOneMore, IsShownEnd, JournalsEnded, ToTell, Written, text_of, written}
+use Rattle.rvm_files.specs.Files.{IsCreated, IsFile, Named}
 
 after_one : (files : Named) (names : List (Bor (List ℕ))) (i : ℕ) (js : List JournalFile) (n : Bor (List ℕ)) (j : JournalFile)
     → AreJournals files (take i names) js → slice_get names i ≡ Some n → IsJournal (files n.now) j.bytes.items
@@ -32,43 +33,42 @@ one_more files names i js after d are below more =
     (after_one files names i js (get_or names i d) more.journal are (slice_get-get_or names i d below) more.lines))
 
 -- `audit-journals` was given its files
-pub has_audited : {F : Type 0} (files : Named) (a : AuditJournalsArguments) (journals : List JournalFile) (image : List ℕ)
+pub has_audited : {F : Type 0} (files created : Named) (a : AuditJournalsArguments) (journals : List JournalFile) (image : List ℕ)
     (output : Option (List ℕ)) (errors : Written) (r : Result ℕ F) → AreJournals files a.journals.items journals
     → IsFile (files a.image.now) image
-    → IfOk r (λ status. AreAuditedTo status journals image (text_of a.order) output errors ⊎ ((status ≡ 1) × IsNotBegun files errors))
-    → IfOk r (λ status. JournalsEnded files a status output errors)
-has_audited files a journals image output errors (Err fault) journals_are image_is ended = tt
-has_audited files a journals image output errors (Ok s) journals_are image_is (inl audited) =
+    → IfOk r (λ status. IsShownEnd files created a a.chart status journals image output errors)
+    → IfOk r (λ status. JournalsEnded files created a status output errors)
+has_audited files created a journals image output errors (Err fault) journals_are image_is ended = tt
+has_audited files created a journals image output errors (Ok s) journals_are image_is (inl shown) =
     inl (record {
       journals = journals;
       image = image;
       journals_are = journals_are;
       image_is = image_is;
-      audited = audited;
+      shown = shown;
     })
-has_audited files a journals image output errors (Ok s) journals_are image_is (inr unbegun) = inr unbegun
+has_audited files created a journals image output errors (Ok s) journals_are image_is (inr unbegun) = inr unbegun
 
 -- the report of its end is not complete
-pub untold_audit : {F : Type 0} (files : Named) (a : AuditJournalsArguments) (journals : List JournalFile) (image : List ℕ)
+pub untold_audit : {F : Type 0} (files created : Named) (a : AuditJournalsArguments) (journals : List JournalFile) (image : List ℕ)
     (output : Option (List ℕ)) (r : Result ℕ F) → AreJournals files a.journals.items journals
     → IsFile (files a.image.now) image
-    → OnErr r (ToTell (λ status errors. AreAuditedTo status journals image (text_of a.order) output errors
-    ⊎ ((status ≡ 1) × IsNotBegun files errors)))
-    → OnErr r (ToTell (λ status errors. JournalsEnded files a status output errors))
-untold_audit files a journals image output (Ok s) journals_are image_is untold = tt
-untold_audit files a journals image output (Err fault) journals_are image_is untold =
+    → OnErr r (ToTell (λ status errors. IsShownEnd files created a a.chart status journals image output errors))
+    → OnErr r (ToTell (λ status errors. JournalsEnded files created a status output errors))
+untold_audit files created a journals image output (Ok s) journals_are image_is untold = tt
+untold_audit files created a journals image output (Err fault) journals_are image_is untold =
     (untold.0, untold.1, has_audited_so untold.0 (written (Some []) (Some untold.1)) untold.2)
   where
     has_audited_so : (s : ℕ) (errors : Written)
-        → AreAuditedTo s journals image (text_of a.order) output errors ⊎ ((s ≡ 1) × IsNotBegun files errors)
-        → JournalsEnded files a s output errors
-    has_audited_so s errors (inl audited) =
+        → IsShownEnd files created a a.chart s journals image output errors
+        → JournalsEnded files created a s output errors
+    has_audited_so s errors (inl shown) =
         inl (record {
           journals = journals;
           image = image;
           journals_are = journals_are;
           image_is = image_is;
-          audited = audited;
+          shown = shown;
         })
     has_audited_so s errors (inr unbegun) = inr unbegun
 
@@ -105,4 +105,68 @@ audit_untold (Err e) files journals bytes image text asked buffer before after f
   untold.1,
   inl (audited_with untold.0 files journals bytes image text asked buffer before after
       (written (Some []) (Some untold.1)) files_are image_is text_is empty untold.2),
+)
+
+-- an audit is shown: by the order or a summary, if no chart is named
+pub plainly_shown : {F : Type 0} (r : Result ℕ F) (files created : Named) (a : AuditJournalsArguments)
+    (chart : Option (Bor (List ℕ))) (text : AuditText) (journals : List JournalFile) (image : List ℕ)
+    (output : Option (List ℕ)) (errors : Written) → chart ≡ None → text ≡ text_of a.order
+    → IfOk r (λ s. IsAuditEnd s files journals image text output errors)
+    → IfOk r (λ s. IsShownEnd files created a chart s journals image output errors)
+plainly_shown r files created a chart text journals image output errors none is ended =
+    subst (λ named. IfOk r (λ s. IsShownEnd files created a named s journals image output errors)) (sym none)
+    (subst (λ asked. IfOk r (λ s. IsAuditEnd s files journals image asked output errors)) is ended)
+
+pub plainly_untold : {F : Type 0} (r : Result ℕ F) (files created : Named) (a : AuditJournalsArguments)
+    (chart : Option (Bor (List ℕ))) (text : AuditText) (journals : List JournalFile) (image : List ℕ)
+    (output : Option (List ℕ)) → chart ≡ None → text ≡ text_of a.order
+    → OnErr r (ToTell (λ s errors. IsAuditEnd s files journals image text output errors))
+    → OnErr r (ToTell (λ s errors. IsShownEnd files created a chart s journals image output errors))
+plainly_untold r files created a chart text journals image output none is untold =
+    subst (λ named. OnErr r (ToTell (λ s errors. IsShownEnd files created a named s journals image output errors))) (sym none)
+    (subst (λ asked. OnErr r (ToTell (λ s errors. IsAuditEnd s files journals image asked output errors))) is untold)
+
+-- or by a chart, if one is named
+pub shown_drawn : {F : Type 0} (r : Result ℕ F) (files created : Named) (a : AuditJournalsArguments)
+    (chart : Option (Bor (List ℕ))) (name : Bor (List ℕ)) (journals : List JournalFile) (image : List ℕ)
+    (output : Option (List ℕ)) (errors : Written) → chart ≡ Some name
+    → IfOk r (λ s. IsDrawnEnd files created name.now s journals image errors)
+    → IfOk r (λ s. IsShownEnd files created a chart s journals image output errors)
+shown_drawn r files created a chart name journals image output errors is ended =
+    subst (λ named. IfOk r (λ s. IsShownEnd files created a named s journals image output errors)) (sym is) ended
+
+pub drawn_untold : {F : Type 0} (r : Result ℕ F) (files created : Named) (a : AuditJournalsArguments)
+    (chart : Option (Bor (List ℕ))) (name : Bor (List ℕ)) (journals : List JournalFile) (image : List ℕ)
+    (output : Option (List ℕ)) → chart ≡ Some name
+    → OnErr r (ToTell (λ s errors. IsDrawnEnd files created name.now s journals image errors))
+    → OnErr r (ToTell (λ s errors. IsShownEnd files created a chart s journals image output errors))
+drawn_untold r files created a chart name journals image output is untold =
+    subst (λ named. OnErr r (ToTell (λ s errors. IsShownEnd files created a named s journals image output errors))) (sym is)
+    untold
+
+-- the chart was written to a file that was created
+drawn_so : (files created : Named) (name : List ℕ) (s : ℕ) (journals : List JournalFile) (image : List ℕ)
+    (held : Option (List ℕ)) (errors : Written) → IsCreated (created name) held
+    → IsAuditEnd s files journals image Chart held errors → IsDrawnEnd files created name s journals image errors
+drawn_so files created name s journals image held errors held_is (inl audited) =
+    inl (record { held = held; held_is = held_is; audited = audited })
+drawn_so files created name s journals image held errors held_is (inr unbegun) = inr unbegun
+
+pub chart_drawn : {F : Type 0} (r : Result ℕ F) (files created : Named) (name : List ℕ) (journals : List JournalFile)
+    (image : List ℕ) (held : Option (List ℕ)) (errors : Written) → IsCreated (created name) held
+    → IfOk r (λ s. IsAuditEnd s files journals image Chart held errors)
+    → IfOk r (λ s. IsDrawnEnd files created name s journals image errors)
+chart_drawn (Ok s) files created name journals image held errors held_is ended =
+    drawn_so files created name s journals image held errors held_is ended
+chart_drawn (Err e) files created name journals image held errors held_is ended = tt
+
+pub chart_untold : {F : Type 0} (r : Result ℕ F) (files created : Named) (name : List ℕ) (journals : List JournalFile)
+    (image : List ℕ) (held : Option (List ℕ)) → IsCreated (created name) held
+    → OnErr r (ToTell (λ s errors. IsAuditEnd s files journals image Chart held errors))
+    → OnErr r (ToTell (λ s errors. IsDrawnEnd files created name s journals image errors))
+chart_untold (Ok s) files created name journals image held held_is untold = tt
+chart_untold (Err e) files created name journals image held held_is untold = (
+  untold.0,
+  untold.1,
+  drawn_so files created name untold.0 journals image held (written (Some []) (Some untold.1)) held_is untold.2,
 )

@@ -5,7 +5,7 @@ use Rattle.std.specs.Result.{IfErr, IfOk}
 use Rattle.std.specs.Prelude.{OnErr}
 use Rattle.rvm_arguments.specs.declared.arguments.Arguments.{Arguments}
 use Rattle.rvm_arguments.specs.declared.arguments.Arguments.TheVariants.{Run, Orders, Asm, Dis, Debug, Script, Move, Audit, Host, Tell, Replay, AuditJournals}
-use Rattle.rvm_program.specs.Ended.{HasEnded, HasRunTo, HostEnded, IsReplayEnd, IsUnbegun, IsUntold, JournalsEnded, MoveHasStatus, ReplayEnded, TellEnded, Written}
+use Rattle.rvm_program.specs.Ended.{AreShown, HasEnded, HasRunTo, HostEnded, IsReplayEnd, IsUnbegun, IsUntold, JournalsEnded, MoveHasStatus, ReplayEnded, TellEnded, Written}
 use Rattle.rvm_program.specs.Performed.{HasFailed, IsJudged, IsPassingOn, MayBeOpen, TellsMore}
 use Rattle.rvm_arguments.specs.declared.arguments.AuditJournalsArguments.{AuditJournalsArguments}
 use Rattle.rvm_arguments.specs.declared.arguments.HostArguments.{HostArguments}
@@ -27,6 +27,7 @@ use Rattle.rvm_command.specs.Refusals.{refused}
 use Rattle.rvm_move.specs.Ended.{ended_of, status_asked}
 use Rattle.rvm_files.specs.Files.{IsUnread, Named}
 use Rattle.rvm_refusal.specs.declared.refusal.Refusal.{Refusal}
+use Rattle.rvm_replay.specs.declared.file.JournalFile.{JournalFile}
 
 -- what a command was asked for that has ended with this status, if it is more than 1
 pub record IsAskedFor (a : Arguments) (s : ℕ) : Type 0 where
@@ -141,16 +142,30 @@ replayed files a n input output errors (inl e) =
 replayed files a n input output errors (inr u) = let it : suc (suc n) ≡ 1 = u.0 in omega (arith, it)
 
 -- an audit of journals has one of three statuses
-audited : (files : Named) (a : AuditJournalsArguments) (n : ℕ) (output : Option (List ℕ)) (errors : Written)
-    → JournalsEnded files a (suc (suc n)) output errors → IsAskedFor (AuditJournals a) (suc (suc n))
-audited files a zero output errors (inl has) = absurd has.audited.1
-audited files a (suc zero) output errors (inl has) = record {
+shown : (created : Named) (a : AuditJournalsArguments) (chart : Option (Bor (List ℕ))) (n : ℕ) (journals : List JournalFile)
+    (image : List ℕ) (output : Option (List ℕ)) (errors : Written)
+    → AreShown created a chart (suc (suc n)) journals image output errors → n ≡ 1
+shown created a None zero journals image output errors has = absurd has.1
+shown created a None (suc zero) journals image output errors has = refl
+shown created a None (suc (suc n)) journals image output errors has = absurd has.1
+shown created a (Some name) zero journals image output errors has = absurd has.audited.1
+shown created a (Some name) (suc zero) journals image output errors has = refl
+shown created a (Some name) (suc (suc n)) journals image output errors has = absurd has.audited.1
+
+undecided : (a : AuditJournalsArguments) (n : ℕ) → n ≡ 1 → IsAskedFor (AuditJournals a) (suc (suc n))
+undecided a zero one = absurd (omega (arith, one))
+undecided a (suc zero) one = record {
   passing = λ two. (let it : 3 ≡ 2 = two in absurd (omega (arith, it)));
   lost = λ three. inl tt;
   judged = λ above. (let it : 3 < 3 = above in absurd (omega (arith, it)));
 }
-audited files a (suc (suc n)) output errors (inl has) = absurd has.audited.1
-audited files a n output errors (inr u) = let it : suc (suc n) ≡ 1 = u.0 in absurd (omega (arith, it))
+undecided a (suc (suc n)) one = let it : suc (suc n) ≡ 1 = one in absurd (omega (arith, it))
+
+audited : (files created : Named) (a : AuditJournalsArguments) (n : ℕ) (output : Option (List ℕ)) (errors : Written)
+    → JournalsEnded files created a (suc (suc n)) output errors → IsAskedFor (AuditJournals a) (suc (suc n))
+audited files created a n output errors (inl has) =
+    undecided a n (shown created a a.chart n has.journals has.image output errors has.shown)
+audited files created a n output errors (inr u) = let it : suc (suc n) ≡ 1 = u.0 in absurd (omega (arith, it))
 
 -- a command that ended with more than 1 was asked for such a status
 more : (files created : Named) (a : Arguments) (n : ℕ) (script : Option (List ℕ)) (output errors : Written)
@@ -170,7 +185,7 @@ more files created (Audit a) n script output errors e = absurd e.ended
 more files created (Host a) n script output errors e = hosted files a n output e
 more files created (Tell a) n script output errors e = told a (suc (suc n)) e
 more files created (Replay a) n script output errors e = absurd (replayed files a n script output errors e)
-more files created (AuditJournals a) n script output errors e = audited files a n output.before errors e
+more files created (AuditJournals a) n script output errors e = audited files created a n output.before errors e
 
 -- a command that has ended was asked for its status
 ended : (files created : Named) (a : Arguments) (s : ℕ) (script : Option (List ℕ)) (output errors : Written)

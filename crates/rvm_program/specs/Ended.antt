@@ -28,7 +28,7 @@ use Rattle.rvm_host_command.specs.Hosted.{IsHostedTo}
 use Rattle.rvm_replay.specs.Findings.{HasAuditStatus}
 use Rattle.rvm_journal.specs.Whole.{AreWholeLines}
 use Rattle.rvm_replay.specs.declared.audit.AuditText.{AuditText}
-use Rattle.rvm_replay.specs.declared.audit.AuditText.TheVariants.{Order, Summary}
+use Rattle.rvm_replay.specs.declared.audit.AuditText.TheVariants.{Chart, Order, Summary}
 use Rattle.rvm_replay.specs.declared.file.JournalFile.{JournalFile}
 use Rattle.rvm_move.specs.Ended.{IsMoved, IsNotMoved}
 use Rattle.rvm_move.specs.Orders.{IsAudited, IsNotAudited}
@@ -273,26 +273,54 @@ abbrev pub AreAuditedTo : (status : ℕ) → List JournalFile → (image : List 
 AreAuditedTo status journals image text before errors =
     (after : Option (List ℕ)) × HasAuditStatus status journals image text before after errors.before errors.after
 
--- `audit-journals` was given the files that it names, and wrote to a buffer in front of the output
-pub record HasAudited (files : Named) (a : AuditJournalsArguments) (status : ℕ) (output : Option (List ℕ)) (errors : Written)
-    : Type 0 where
-  pub journals : List JournalFile
-  pub image : List ℕ
-  pub journals_are : AreJournals files a.journals.items journals
-  pub image_is : IsFile (files a.image.now) image
-  pub audited : AreAuditedTo status journals image (text_of a.order) output errors
-
--- `audit-journals` was given its files, or did not begin
-abbrev pub JournalsEnded : (files : Named) → AuditJournalsArguments → (status : ℕ) → (output : Option (List ℕ))
-    → (errors : Written) → Type 0
-JournalsEnded files a status output errors =
-    HasAudited files a status output errors ⊎ ((status ≡ 1) × IsNotBegun files errors)
-
 -- what was read of the files was audited, or the audit did not begin
 abbrev pub IsAuditEnd : (status : ℕ) → (files : Named) → List JournalFile → (image : List ℕ) → AuditText
     → (before : Option (List ℕ)) → (errors : Written) → Type 0
 IsAuditEnd status files journals image text before errors =
     AreAuditedTo status journals image text before errors ⊎ ((status ≡ 1) × IsNotBegun files errors)
+
+-- journals were audited, and the audit wrote a chart to the file with this name
+pub record AreDrawn (created : Named) (name : List ℕ) (status : ℕ) (journals : List JournalFile) (image : List ℕ)
+    (errors : Written) : Type 0 where
+  pub held : Option (List ℕ)
+  pub held_is : IsCreated (created name) held
+  pub audited : AreAuditedTo status journals image Chart held errors
+
+-- what was read of the files was audited and drawn, or the audit did not begin
+abbrev pub IsDrawnEnd : (files created : Named) → (name : List ℕ) → (status : ℕ) → List JournalFile → (image : List ℕ)
+    → (errors : Written) → Type 0
+IsDrawnEnd files created name status journals image errors =
+    AreDrawn created name status journals image errors ⊎ ((status ≡ 1) × IsNotBegun files errors)
+
+-- journals were audited, and the audit wrote the order or a summary after what the output held; or a chart to its file, if
+-- one is named
+abbrev pub AreShown : (created : Named) → AuditJournalsArguments → (chart : Option (Bor (List ℕ))) → (status : ℕ)
+    → List JournalFile → (image : List ℕ) → (output : Option (List ℕ)) → (errors : Written) → Type 0
+AreShown created a None status journals image output errors =
+    AreAuditedTo status journals image (text_of a.order) output errors
+AreShown created a (Some name) status journals image output errors =
+    AreDrawn created name.now status journals image errors
+
+-- what was read of the files was audited and shown, or the audit did not begin
+abbrev pub IsShownEnd : (files created : Named) → AuditJournalsArguments → (chart : Option (Bor (List ℕ))) → (status : ℕ)
+    → List JournalFile → (image : List ℕ) → (output : Option (List ℕ)) → (errors : Written) → Type 0
+IsShownEnd files created a chart status journals image output errors =
+    AreShown created a chart status journals image output errors ⊎ ((status ≡ 1) × IsNotBegun files errors)
+
+-- `audit-journals` was given the files that it names
+pub record HasAudited (files created : Named) (a : AuditJournalsArguments) (status : ℕ) (output : Option (List ℕ))
+    (errors : Written) : Type 0 where
+  pub journals : List JournalFile
+  pub image : List ℕ
+  pub journals_are : AreJournals files a.journals.items journals
+  pub image_is : IsFile (files a.image.now) image
+  pub shown : AreShown created a a.chart status journals image output errors
+
+-- `audit-journals` was given its files, or did not begin
+abbrev pub JournalsEnded : (files created : Named) → AuditJournalsArguments → (status : ℕ) → (output : Option (List ℕ))
+    → (errors : Written) → Type 0
+JournalsEnded files created a status output errors =
+    HasAudited files created a status output errors ⊎ ((status ≡ 1) × IsNotBegun files errors)
 
 -- what a command line asks for ended with this status
 abbrev pub HasEnded : (files created : Named) → Arguments → (status : ℕ) → (script : Option (List ℕ))
@@ -308,7 +336,7 @@ HasEnded files created (Audit a) status script output errors = AuditEnded files 
 HasEnded files created (Host a) status script output errors = HostEnded files a status output
 HasEnded files created (Tell a) status script output errors = TellEnded status
 HasEnded files created (Replay a) status script output errors = ReplayEnded files a status script output errors
-HasEnded files created (AuditJournals a) status script output errors = JournalsEnded files a status output.before errors
+HasEnded files created (AuditJournals a) status script output errors = JournalsEnded files created a status output.before errors
 
 -- a command did not begin, since a file could not be opened or read, memory ran out, or a file has more bytes than it
 -- may have; and that was reported

@@ -601,7 +601,7 @@ fn read_told_image<'a, F: NamedFiles>(
 
 /// Tells a host a line, or each line of standard input, and writes its answers. Returns the status: 0 if all that was
 /// asked happened, 1 if something did not, 3 if an answer was lost. Reports in `errors` if the host cannot be reached,
-/// and if an answer was lost.
+/// and if an answer was lost. How far a move has come is shown while it goes on.
 pub(crate) fn tell<Rt: System + Net, I: Read, O: Write, E: Write>(
     rt: &Rt,
     arguments: &TellArguments,
@@ -619,10 +619,13 @@ pub(crate) fn tell<Rt: System + Net, I: Read, O: Write, E: Write>(
         }
     };
     let status = match arguments.line {
-        Some(line) => tell_lines(rt, stream, &mut line.as_bytes(), output, errors),
+        Some(line) => {
+            let mut line = line.as_bytes();
+            tell_command(rt.alloc(), stream, &mut line, output, &mut rt.progress())
+        }
         None => {
             let mut lines = BufReader::new(rt.alloc(), input)?;
-            tell_lines(rt, stream, &mut lines, output, errors)
+            tell_command(rt.alloc(), stream, &mut lines, output, &mut rt.progress())
         }
     };
     if status == LOST {
@@ -633,24 +636,6 @@ pub(crate) fn tell<Rt: System + Net, I: Read, O: Write, E: Write>(
         )?;
     }
     Ok(status)
-}
-
-/// Tells a host lines, and writes its answers. If standard error is a terminal, the progress of a move is written to
-/// `errors`.
-fn tell_lines<Rt: System, S: Read + Write + OpenStream + Drop, I: BufRead, O: Write, E: Write>(
-    rt: &Rt,
-    stream: S,
-    lines: &mut I,
-    output: &mut O,
-    errors: &mut E,
-) -> u8
-    ensures { TellEnded result }
-{
-    if rt.shows_errors() {
-        tell_command(rt.alloc(), stream, lines, output, errors)
-    } else {
-        tell_command(rt.alloc(), stream, lines, output, &mut io::sink())
-    }
 }
 
 /// An empty buffer in front of a writer.

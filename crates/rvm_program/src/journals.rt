@@ -3,13 +3,13 @@
 
 ghost use Rattle.std.specs.Prelude.{◌≡◌, [], ◌∷◌, ◌++◌, IfErr, IfOk, OnErr, OnOk};
 ghost use Rattle.rvm_replay.specs.Replays.{HasReplayStatus};
-ghost use Rattle.rvm_program.specs.Ended.{AreJournals, IsAnswerEnd, IsAuditEnd, IsFileOrNone, IsJournal, IsOneMore, IsReplayed, JournalsEnded, ReplayEnded, ToTell, text_of, written};
-ghost use Rattle.rvm_files.specs.Files.{IsFile, IsRefusedFile, Named};
+ghost use Rattle.rvm_program.specs.Ended.{AreJournals, IsAnswerEnd, IsAuditEnd, IsDrawnEnd, IsFileOrNone, IsJournal, IsOneMore, IsReplayed, IsShownEnd, JournalsEnded, ReplayEnded, ToTell, text_of, written};
+ghost use Rattle.rvm_files.specs.Files.{IsCreated, IsFile, IsFileRefusal, IsRefusedFile, Named};
 
 use crate::commands::{STANDARD_INPUT, Told, buffered, read_told, tell_file};
 use rvm_arguments::{AuditJournalsArguments, ReplayArguments};
 use rvm_command::refused::{Refused, tell};
-use rvm_files::{MAX_JOURNAL_SIZE, NamedFiles, read_file};
+use rvm_files::{MAX_JOURNAL_SIZE, NamedFiles, keep_read, read_beginning, read_file};
 use rvm_journal::whole_size;
 use rvm_mem::PagedMemory;
 use rvm_refusal::Refusal;
@@ -174,21 +174,113 @@ fn read_named<'a, F: NamedFiles>(
 
 /// Reads the journals of the hosts of a world and the image of its guest, and audits the journals. If a file is refused,
 /// writes its name and the refusal to `errors`, and returns the status 1.
-pub(crate) fn audit_journals<M: PagedMemory + Drop, F: NamedFiles, O: Write, E: Write>(
+pub(crate) fn audit_journals<M: PagedMemory + Drop, F: NamedFiles, O: Write, P: Write, E: Write>(
     alloc: Global,
     files: &F,
     arguments: &AuditJournalsArguments,
     output: &mut O,
+    progress: &mut P,
     errors: &mut E,
 ) -> Told
-    ensures ended { IfOk result (λ status. JournalsEnded (F.bytes_of files.now) arguments.now status
-        (O.contents output.old) (written (E.contents errors.old) (E.contents errors.new))) }
-    ensures untold { OnErr result (ToTell (λ status errors. JournalsEnded (F.bytes_of files.now) arguments.now status
-        (O.contents output.old) errors)) }
+    ensures ended { IfOk result (λ status. JournalsEnded (F.bytes_of files.now) (F.created_of files.now) arguments.now
+        status (O.contents output.old) (written (E.contents errors.old) (E.contents errors.new))) }
+    ensures untold { OnErr result (ToTell (λ status errors. JournalsEnded (F.bytes_of files.now) (F.created_of files.now)
+        arguments.now status (O.contents output.old) errors)) }
 {
     match read_audited(alloc, files, arguments) {
-        Ok(read) => audit_read::<M, O, E>(alloc, &read, arguments.order, output, errors),
+        Ok(read) => show_audit::<M, F, O, P, E>(
+            alloc, files, arguments, &read, output, progress, errors,
+        ),
         Err((path, why)) => tell_file(path, why, errors),
+    }
+}
+
+/// Audits journals that were read, and writes what is asked for: a chart to its file, or else the order or a summary to
+/// `output`.
+fn show_audit<M: PagedMemory + Drop, F: NamedFiles, O: Write, P: Write, E: Write>(
+    alloc: Global,
+    files: &F,
+    arguments: &AuditJournalsArguments,
+    read: &AuditFiles<'_>,
+    output: &mut O,
+    progress: &mut P,
+    errors: &mut E,
+) -> Told
+    ensures ended { IfOk result (λ status. IsShownEnd (F.bytes_of files.now) (F.created_of files.now) arguments.now
+        arguments.now.chart status read.now.journals.items read.now.image.items (O.contents output.old)
+        (written (E.contents errors.old) (E.contents errors.new))) }
+    ensures untold { OnErr result (ToTell (λ status errors. IsShownEnd (F.bytes_of files.now) (F.created_of files.now)
+        arguments.now arguments.now.chart status read.now.journals.items read.now.image.items (O.contents output.old)
+        errors)) }
+{
+    match arguments.chart {
+        Some(chart) => draw_audit::<M, F, P, E>(alloc, files, chart, read, progress, errors),
+        None => {
+            let text = text_of(arguments.order);
+            audit_read::<M, O, P, E>(alloc, read, text, output, progress, errors)
+        }
+    }
+}
+
+/// Audits journals that were read, and writes a chart to the file with this name, which is created or emptied. If the file
+/// is refused, writes its name and the refusal to `errors`, and returns the status 1.
+fn draw_audit<M: PagedMemory + Drop, F: NamedFiles, P: Write, E: Write>(
+    alloc: Global,
+    files: &F,
+    chart: &str,
+    read: &AuditFiles<'_>,
+    progress: &mut P,
+    errors: &mut E,
+) -> Told
+    ensures ended { IfOk result (λ status. IsDrawnEnd (F.bytes_of files.now) (F.created_of files.now) chart.now status
+        read.now.journals.items read.now.image.items (written (E.contents errors.old) (E.contents errors.new))) }
+    ensures untold { OnErr result (ToTell (λ status errors. IsDrawnEnd (F.bytes_of files.now) (F.created_of files.now)
+        chart.now status read.now.journals.items read.now.image.items errors)) }
+{
+    match create_chart(alloc, files, chart, read) {
+        Ok(mut file) => audit_read::<M, F::Created, P, E>(
+            alloc,
+            read,
+            AuditText::Chart,
+            &mut file,
+            progress,
+            errors,
+        ),
+        Err(why) => tell_file(chart, why, errors),
+    }
+}
+
+/// Creates or empties the file of a chart. Refuses with `LinkFault` one that may be a file that was read.
+fn create_chart<F: NamedFiles>(
+    alloc: Global,
+    files: &F,
+    chart: &str,
+    read: &AuditFiles<'_>,
+) -> Result<F::Created, Refusal>
+    ensures created { IfOk result (λ file. IsCreated (F.created_of files.now chart.now) (F.Created.contents file)) }
+    ensures refused { IfErr result IsFileRefusal }
+{
+    keep_read(files, alloc, chart, &read.image)?;
+    for journal in read.journals.iter() {
+        keep_begun(files, alloc, chart, &journal.bytes)?;
+    }
+    files.create(chart)
+}
+
+/// Refuses with `LinkFault` a file that is to be written and begins with these bytes, which are the whole lines of a
+/// journal: it may be the file of that journal, under another name.
+fn keep_begun<F: NamedFiles>(
+    files: &F,
+    alloc: Global,
+    path: &str,
+    lines: &[u8],
+) -> Result<(), Refusal>
+    ensures refused { IfErr result IsFileRefusal }
+{
+    match read_beginning(files, alloc, path, lines.len() as u64) {
+        Ok(begun) if !lines.is_empty() && begun.as_slice() == lines => Err(Refusal::LinkFault),
+        Err(Refusal::OutOfMemory) => Err(Refusal::OutOfMemory),
+        _ => Ok(()),
     }
 }
 
@@ -257,31 +349,29 @@ fn keep<'a>(read: &mut Vec<JournalFile<'a>>, journal: JournalFile<'a>) -> Result
 }
 
 /// Audits journals that were read, and writes what is asked for to a buffer in front of `output`.
-fn audit_read<M: PagedMemory + Drop, O: Write, E: Write>(
+fn audit_read<M: PagedMemory + Drop, O: Write, P: Write, E: Write>(
     alloc: Global,
     read: &AuditFiles<'_>,
-    order: bool,
+    text: AuditText,
     output: &mut O,
+    progress: &mut P,
     errors: &mut E,
 ) -> Told
     ensures audited { (files : Named) → IfOk result (λ status. IsAuditEnd status files read.now.journals.items
-        read.now.image.items (text_of order) (O.contents output.old)
-        (written (E.contents errors.old) (E.contents errors.new))) }
+        read.now.image.items text (O.contents output.old) (written (E.contents errors.old) (E.contents errors.new))) }
     ensures untold { (files : Named) → OnErr result (ToTell (λ status errors. IsAuditEnd status files
-        read.now.journals.items read.now.image.items (text_of order) (O.contents output.old) errors)) }
+        read.now.journals.items read.now.image.items text (O.contents output.old) errors)) }
 {
     match buffered(alloc, output) {
-        Ok(mut output) => {
-            let text = text_of(order);
-            audit_files::<M, _, E>(
-                alloc,
-                &read.journals,
-                &read.image,
-                text,
-                &mut output,
-                errors,
-            )
-        }
+        Ok(mut output) => audit_files::<M, _, P, E>(
+            alloc,
+            &read.journals,
+            &read.image,
+            text,
+            &mut output,
+            progress,
+            errors,
+        ),
         Err(why) => tell(Refused::from(why), errors),
     }
 }

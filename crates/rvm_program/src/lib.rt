@@ -419,11 +419,12 @@ where
             output,
             errors,
         )),
-        Arguments::AuditJournals(arguments) => Ok(journals::audit_journals::<M, F, O, E>(
+        Arguments::AuditJournals(arguments) => Ok(journals::audit_journals::<M, F, O, _, E>(
             rt.alloc(),
             files,
             arguments,
             output,
+            &mut rt.progress(),
             errors,
         )),
     }

@@ -1,8 +1,9 @@
 //! What a program needs of the system that it runs on.
 
-use std::io::{IsTerminal, Read};
+use either::Either;
+use std::io::{self, IsTerminal, Read, Sink, Write};
 use std::random::RandomSource;
-use std::rt::{Files, Stdin};
+use std::rt::{Files, Stderr, Stdin};
 use std::time::Clock;
 
 /// The system that a program runs on: memory, files, clock, random numbers and standard streams.
@@ -13,8 +14,11 @@ pub trait System: Files + AllocGlobal + Clock + RandomSource + Copy + Send + Syn
     /// Standard input, which is read as it comes.
     fn live_input(&self) -> Self::Live;
 
-    /// Whether standard error is a terminal.
-    fn shows_errors(&self) -> bool;
+    /// A writer of what is shown while a command works.
+    type Progress: Write + Drop;
+
+    /// Standard error, if that is a terminal; else what is shown goes nowhere.
+    fn progress(&self) -> Self::Progress;
 }
 
 impl System for HostRuntime {
@@ -24,7 +28,14 @@ impl System for HostRuntime {
         self.stdin()
     }
 
-    fn shows_errors(&self) -> bool {
-        self.stderr().is_terminal()
+    type Progress = Either<Stderr, Sink>;
+
+    fn progress(&self) -> Either<Stderr, Sink> {
+        let errors = self.stderr();
+        if errors.is_terminal() {
+            Either::Left(errors)
+        } else {
+            Either::Right(io::sink())
+        }
     }
 }

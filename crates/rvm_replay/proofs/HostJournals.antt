@@ -12,9 +12,10 @@ use Rattle.rvm_audit.specs.Rule.{IsMerge}
 use Rattle.rvm_core.specs.EventLines.{event_lines}
 use Rattle.rvm_core.specs.declared.event.Event.{Event}
 use Rattle.rvm_replay.specs.Audited.{IsOrdered, IsWritten, journals_in}
+use Rattle.rvm_replay.specs.Charts.{chart_of}
 use Rattle.rvm_replay.specs.Counts.{summary_of}
 use Rattle.rvm_replay.specs.declared.audit.AuditText.{AuditText}
-use Rattle.rvm_replay.specs.declared.audit.AuditText.TheVariants.{Order, Summary}
+use Rattle.rvm_replay.specs.declared.audit.AuditText.TheVariants.{Chart, Order, Summary}
 
 abbrev journals : List Recording → List History
 journals all = map (λ r. r.journal) all
@@ -43,6 +44,8 @@ kept : (text : AuditText) (all : List Recording) (events : List Event) (before m
 kept Summary all events before mid after written keeps = Appends-kept before mid after (summary_of all) written keeps
 kept Order all events before mid after written keeps =
     Appends-kept before mid after (event_lines (length all) events) written keeps
+kept Chart all events before mid after written keeps =
+    Appends-kept before mid after (chart_of (length all) events) written keeps
 
 -- so it is of what was flushed
 pub written_kept : {F : Type 0} (text : AuditText) (all : List Recording) (events : List Event) (before mid after : Option (List ℕ))

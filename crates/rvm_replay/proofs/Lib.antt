@@ -6,6 +6,8 @@ pub mod OtherMeetings
 mod AuditEnds
 mod Counting
 mod SummaryLines
+mod Charting
+mod Examples
 mod PlaceLines
 pub mod OneWorld
 mod Showing

@@ -15,10 +15,11 @@ use Rattle.rvm_core.specs.EventLines.{event_lines}
 use Rattle.rvm_journal.specs.declared.header.Header.{Header}
 use Rattle.rvm_journal.specs.declared.header.Image.{Image}
 use Rattle.rvm_replay.specs.declared.audit.AuditText.{AuditText}
-use Rattle.rvm_replay.specs.declared.audit.AuditText.TheVariants.{Order, Summary}
+use Rattle.rvm_replay.specs.declared.audit.AuditText.TheVariants.{Chart, Order, Summary}
 use Rattle.rvm_replay.specs.declared.file.JournalFile.{JournalFile}
 use Rattle.rvm_replay.specs.declared.headers.Wanted.{Wanted}
 use Rattle.rvm_replay.specs.declared.headers.Wanted.TheVariants.{OfHost, WithGuest}
+use Rattle.rvm_replay.specs.Charts.{chart_of}
 use Rattle.rvm_replay.specs.Counts.{summary_of}
 use Rattle.rvm_replay.specs.Journals.{IsGuestNamed, IsHostOf, header_number}
 use Rattle.rvm_replay.specs.Meetings.{HaveMet}
@@ -99,10 +100,11 @@ abbrev pub journals_in : List Recording → Journals
 journals_in all = journals_of (map (λ r. r.journal) all)
 
 -- what was asked for was written of an order of the journals of these hosts: what the journals add up to, a line for each
--- host and one for all, or the events, a line each
+-- host and one for all; the events, a line each; or a chart of them
 abbrev pub IsWritten : AuditText → List Recording → List Event → (before after : Option (List ℕ)) → Type 0
 IsWritten Summary all events before after = Appends before after (summary_of all)
 IsWritten Order all events before after = Appends before after (event_lines (length all) events)
+IsWritten Chart all events before after = Appends before after (chart_of (length all) events)
 
 -- the journals of these hosts have an order, that of the rule, and what was asked for of it was written
 pub record IsOrdered (text : AuditText) (all : List Recording) (before after : Option (List ℕ)) : Type 0 where

@@ -3,6 +3,7 @@ pub mod FileFaults
 pub mod Consoles
 pub mod Replays
 pub mod Counts
+pub mod Charts
 pub mod Meetings
 pub mod Audited
 pub mod Unaudited

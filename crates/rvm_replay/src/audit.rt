@@ -11,9 +11,11 @@ ghost use Rattle.rvm_replay.specs.Audited.{IsWritten, journals_in};
 ghost use Rattle.rvm_replay.specs.Findings.{HasAuditStatus, HasFindingStatus, IsFaultTold, IsFinding, IsUntoldAudit, IsUntoldFinding};
 ghost use Rattle.rvm_replay.specs.declared.file.JournalFile.{JournalFile};
 
+use crate::chart::write_chart;
 use crate::cuts::cuts_of;
 use crate::file::{JournalFile, JournalsFault};
 use crate::places::write_places;
+use crate::progress::show_search;
 use crate::report::report_fault;
 use crate::summary::write_summary;
 use crate::world::replay_all;
@@ -37,6 +39,8 @@ pub enum AuditText {
     Summary,
     /// The events of the order that was found, a line each.
     Order,
+    /// A chart of the order that was found, as a picture in SVG.
+    Chart,
 }
 
 /// What an audit found.
@@ -60,13 +64,15 @@ pub(crate) enum Finding {
 /// `text` asks for is written, and `output` is flushed. It is 3 if there is none, and what was cut off may be the reason.
 /// It is 1 if there is none whatever was cut off, if a journal is refused, if memory runs out, or if a write to `output`
 /// fails. `errors` says which journal is refused and why, how much of each journal is in order, or `LinkFault` for a
-/// write. The error `LinkFault` says that a write to `errors` failed.
-pub fn audit_journals<M: PagedMemory + Drop, O: Write + Drop, E: Write>(
+/// write. The error `LinkFault` says that a write to `errors` failed. `progress` gets a line for each journal, before its
+/// host does again what it tells, and one before an order is looked for; what cannot be written there is lost.
+pub fn audit_journals<M: PagedMemory + Drop, O: Write + Drop, P: Write, E: Write>(
     alloc: Global,
     files: &[JournalFile<'_>],
     image: &[u8],
     text: AuditText,
     output: &mut BufWriter<O>,
+    progress: &mut P,
     errors: &mut E,
 ) -> Result<u8, LinkFault>
     ensures status { IfOk result (λ status. HasAuditStatus status files.now image.now text
@@ -76,8 +82,9 @@ pub fn audit_journals<M: PagedMemory + Drop, O: Write + Drop, E: Write>(
     ensures untold { OnErr result (IsUntoldAudit files.now image.now text
         (writer_contents O.contents output.old) (writer_contents O.contents output.new)) }
 {
-    match replay_all::<M>(alloc, files, image) {
+    match replay_all::<M, P>(alloc, files, image, progress) {
         Ok(all) => {
+            show_search(progress);
             let ended = audit_replayed(alloc, files, all.as_slice(), text, output, errors);
             the_guest_of_an_order_never_moves();
             drop(all);
@@ -246,5 +253,6 @@ fn write_text<M: PagedMemory + Drop, O: Write>(
     match text {
         AuditText::Summary => write_summary(all, output),
         AuditText::Order => write_order(output, all.len() as u8, order),
+        AuditText::Chart => write_chart(all.len() as u8, order, output),
     }
 }

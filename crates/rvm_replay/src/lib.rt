@@ -5,18 +5,21 @@
 //! `rvm_audit` for the order. It must not know files, sockets or workers.
 //!
 //! To be read in this order: `file`, `hosts`, `report`, `console_of_journal`, `replay_command`, `replay_session`;
-//! `headers`, `meetings`, `world`, `cuts`, `counts`, `summary`, `places`, `audit`.
+//! `headers`, `meetings`, `world`, `cuts`, `counts`, `summary`, `drawing`, `chart`, `places`, `progress`, `audit`.
 #![tactic(auto)]
 
 pub mod audit;
+mod chart;
 mod console_of_journal;
 mod counts;
 mod cuts;
+mod drawing;
 pub mod file;
 mod headers;
 mod hosts;
 mod meetings;
 mod places;
+mod progress;
 pub mod replay_command;
 pub mod replay_session;
 mod report;

@@ -8,19 +8,22 @@ ghost use Rattle.rvm_replay.specs.declared.file.JournalsFault.TheVariants.{File,
 use crate::file::{FileFault, JournalFile, JournalsFault};
 use crate::headers::{Wanted, header_number, hosts_of_world, index_of};
 use crate::hosts::{open_host, replay_bytes};
+use crate::progress::show_replay;
 use rvm_journal::JournalFault;
 use rvm_mem::PagedMemory;
 use rvm_recorder::Recorded;
 use std::alloc::Global;
+use std::io::Write;
 
 /// Makes the hosts of the world whose journals these are, in order, and has each do what its journal tells; a host
 /// without a journal does nothing. Fails if the journals are not those of hosts of one world, if one of them is refused,
 /// or if memory runs out.
 #[tactic(auto, using(crate::proofs::JournalFaults::of_headers))]
-pub(crate) fn replay_all<M: PagedMemory + Drop>(
+pub(crate) fn replay_all<M: PagedMemory + Drop, P: Write>(
     alloc: Global,
     files: &[JournalFile<'_>],
     image: &[u8],
+    progress: &mut P,
 ) -> Result<Vec<Recorded<M>>, JournalsFault>
     ensures done { IfOk result (λ all. AreReplayed files.now image.now all.items) }
     ensures few { IfOk result (λ all. length all.items ≤ 8) }
@@ -28,7 +31,7 @@ pub(crate) fn replay_all<M: PagedMemory + Drop>(
 {
     let hosts = hosts_of_world(files)?;
     let mut all = Vec::new(alloc);
-    match replay_each(alloc, files, image, hosts, &mut all) {
+    match replay_each(alloc, files, image, hosts, &mut all, progress) {
         Ok(()) => Ok(all),
         Err(fault) => {
             drop(all);
@@ -39,12 +42,13 @@ pub(crate) fn replay_all<M: PagedMemory + Drop>(
 
 /// Makes the hosts of a world that has this many, in order, and has each do what its journal tells.
 #[tactic(auto, using(crate::proofs::AllHosts::none_done, crate::proofs::JournalFaults::of_memory))]
-fn replay_each<M: PagedMemory + Drop>(
+fn replay_each<M: PagedMemory + Drop, P: Write>(
     alloc: Global,
     files: &[JournalFile<'_>],
     image: &[u8],
     hosts: u8,
     all: &mut Vec<Recorded<M>>,
+    progress: &mut P,
 ) -> Result<(), JournalsFault>
     requires none { all.old.items ≡ [] }
     requires hosts { (2 ≤ hosts) × (hosts ≤ 8) }
@@ -53,7 +57,7 @@ fn replay_each<M: PagedMemory + Drop>(
     ensures fault { IfErr result (IsJournalsFault files.now image.now) }
 {
     for host in 0..hosts {
-        let recorded = replay_host(alloc, files, image, hosts, host)?;
+        let recorded = replay_host(alloc, files, image, hosts, host, progress)?;
         keep(all, recorded)?;
     }
     Ok(())
@@ -75,12 +79,13 @@ fn keep<M: PagedMemory + Drop>(
 
 /// Makes a host, and has it do what its journal tells, if it has one.
 #[tactic(auto, using(crate::proofs::JournalFaults::of_headers))]
-fn replay_host<M: PagedMemory + Drop>(
+fn replay_host<M: PagedMemory + Drop, P: Write>(
     alloc: Global,
     files: &[JournalFile<'_>],
     image: &[u8],
     hosts: u8,
     host: u8,
+    progress: &mut P,
 ) -> Result<Recorded<M>, JournalsFault>
     requires hosts { (2 ≤ hosts) × (hosts ≤ 8) }
     requires host { host < hosts }
@@ -88,7 +93,10 @@ fn replay_host<M: PagedMemory + Drop>(
     ensures fault { IfErr result (IsJournalsFault files.now image.now) }
 {
     match index_of(files, Wanted::OfHost(host))? {
-        Some(index) => replay_file(alloc, files, index, image),
+        Some(index) => {
+            show_replay(files, index, progress);
+            replay_file(alloc, files, index, image)
+        }
         None => Ok(idle_host(alloc, hosts, host)),
     }
 }

@@ -16,7 +16,7 @@ use rvm_recorder::{Meeting, Recorded};
 use rvm_replay::audit::{AuditText, audit_journals};
 use rvm_replay::file::JournalFile;
 use std::alloc::Global;
-use std::io::BufWriter;
+use std::io::{self, BufWriter};
 
 /// The number of hosts.
 const HOSTS: u8 = 3;
@@ -388,7 +388,16 @@ fn status_of(
     };
     let image = image_of(case);
     let mut buffer = BufWriter::new(alloc, output).ok()?;
-    audit_journals::<PagedRam, _, _>(alloc, files, image, text, &mut buffer, errors).ok()
+    audit_journals::<PagedRam, _, _, _>(
+        alloc,
+        files,
+        image,
+        text,
+        &mut buffer,
+        &mut io::sink(),
+        errors,
+    )
+    .ok()
 }
 
 /// Prints how many events an order has, and whether it is from a step of host A to one of host C.

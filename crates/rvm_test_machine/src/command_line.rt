@@ -120,6 +120,7 @@ fn an_audit_takes_up_to_eight_journals(rt: HostRuntime) -> Result<(), Fail> {
             assert_eq!(rt; audit.journals.as_slice(), &words[4..12]);
             assert_eq!(rt; audit.image, "i");
             assert!(rt; !audit.order);
+            assert!(rt; audit.chart.is_none());
         }
         other => panic!(rt; "{other:?}"),
     }

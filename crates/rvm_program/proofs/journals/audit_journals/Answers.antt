@@ -6,22 +6,24 @@ use Rattle.rvm_program.proofs.journals.audit_journals.Goals as goal
 
 pub returns-in-Ok-clause-ended : goal.returns-in-Ok-clause-ended
 returns-in-Ok-clause-ended g c =
-    has_audited (g.F.NamedFiles.bytes_of c.args.files.now) c.args.arguments.now c.in-Ok.read.journals.items
+    has_audited (g.F.NamedFiles.bytes_of c.args.files.now) (g.F.NamedFiles.created_of c.args.files.now) c.args.arguments.now
+    c.in-Ok.read.journals.items
     c.in-Ok.read.image.items (g.O.Write.contents c.args.output.now)
-    (written (g.E.Write.contents c.args.errors.now) (g.E.Write.contents c.audit_read.new.errors)) c.audit_read.result
+    (written (g.E.Write.contents c.args.errors.now) (g.E.Write.contents c.show_audit.new.errors)) c.show_audit.result
     c.in-Ok.ensures.journals c.in-Ok.ensures.image
-    (c.audit_read.ensures.audited (g.F.NamedFiles.bytes_of c.args.files.now))
+    c.show_audit.ensures.ended
 
 pub returns-in-Ok-clause-untold : goal.returns-in-Ok-clause-untold
 returns-in-Ok-clause-untold g c =
-    untold_audit (g.F.NamedFiles.bytes_of c.args.files.now) c.args.arguments.now c.in-Ok.read.journals.items
-    c.in-Ok.read.image.items (g.O.Write.contents c.args.output.now) c.audit_read.result
+    untold_audit (g.F.NamedFiles.bytes_of c.args.files.now) (g.F.NamedFiles.created_of c.args.files.now) c.args.arguments.now
+    c.in-Ok.read.journals.items
+    c.in-Ok.read.image.items (g.O.Write.contents c.args.output.now) c.show_audit.result
     c.in-Ok.ensures.journals c.in-Ok.ensures.image
-    (c.audit_read.ensures.untold (g.F.NamedFiles.bytes_of c.args.files.now))
+    c.show_audit.ensures.untold
 
 pub returns-in-Err-clause-untold : goal.returns-in-Err-clause-untold
 returns-in-Err-clause-untold g c =
     let files = g.F.NamedFiles.bytes_of c.args.files.now in
-    let Ends : ℕ → Written → Type 0 = λ status errors. HasAudited files c.args.arguments.now status
+    let Ends : ℕ → Written → Type 0 = λ status errors. HasAudited files (g.F.NamedFiles.created_of c.args.files.now) c.args.arguments.now status
     (g.O.Write.contents c.args.output.now) errors in
     file_untold c.tell_file.result Ends files c.in-Err.path.now c.in-Err.why c.in-Err.ensures.refused
