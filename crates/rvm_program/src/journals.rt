@@ -9,7 +9,7 @@ ghost use Rattle.rvm_files.specs.Files.{IsCreated, IsFile, IsFileRefusal, IsRefu
 use crate::commands::{STANDARD_INPUT, Told, buffered, read_told, tell_file};
 use rvm_arguments::{AuditJournalsArguments, ReplayArguments};
 use rvm_command::refused::{Refused, tell};
-use rvm_files::{MAX_JOURNAL_SIZE, NamedFiles, keep_read, read_beginning, read_file};
+use rvm_files::{MAX_JOURNAL_SIZE, NamedFiles, keep_read, read_file, refusal_of};
 use rvm_journal::whole_size;
 use rvm_mem::PagedMemory;
 use rvm_refusal::Refusal;
@@ -267,8 +267,8 @@ fn create_chart<F: NamedFiles>(
     files.create(chart)
 }
 
-/// Refuses with `LinkFault` a file that is to be written and begins with these bytes, which are the whole lines of a
-/// journal: it may be the file of that journal, under another name.
+/// Refuses with `LinkFault` a file that is to be written, keeps its bytes, and begins with these, which are the whole lines
+/// of a journal: it may be the file of that journal, under another name.
 fn keep_begun<F: NamedFiles>(
     files: &F,
     alloc: Global,
@@ -277,10 +277,24 @@ fn keep_begun<F: NamedFiles>(
 ) -> Result<(), Refusal>
     ensures refused { IfErr result IsFileRefusal }
 {
-    match read_beginning(files, alloc, path, lines.len() as u64) {
-        Ok(begun) if !lines.is_empty() && begun.as_slice() == lines => Err(Refusal::LinkFault),
-        Err(Refusal::OutOfMemory) => Err(Refusal::OutOfMemory),
-        _ => Ok(()),
+    let Some(file) = files.open_kept(path) else {
+        return Ok(());
+    };
+    if begins(alloc, file, lines)? {
+        return Err(Refusal::LinkFault);
+    }
+    Ok(())
+}
+
+/// Whether these are some bytes, and a reader gives them first.
+fn begins<R: Read + Drop>(alloc: Global, mut reader: R, bytes: &[u8]) -> Result<bool, Refusal>
+    ensures refused { IfErr result IsFileRefusal }
+{
+    let mut begun = Vec::new(alloc);
+    let mut limited = (&mut reader).take(bytes.len() as u64);
+    match limited.read_to_end(&mut begun) {
+        Ok(_) => Ok(!bytes.is_empty() && begun.as_slice() == bytes),
+        Err(error) => Err(refusal_of(error)),
     }
 }
 
