@@ -104,7 +104,7 @@ begins_behind host turns skipped all rest events none is begun =
     (subst (λ es. BeginsWith host turns es (all_events rest))
     (sym (behind_none all) ∙ ap (events_behind all) (sym none) ∙ is) begun)
 
--- a piece of which all events were returned is behind
+-- a piece may be left out once all its events were returned
 pub without_first : (p : Placed) (ps all : List Placed) (skipped : ℕ) (event : Option Event) → all ≡ p ∷ ps
     → event ≡ slice_get (events_of p) skipped → event ≡ None → events_behind ps 0 ≡ events_behind all skipped
 without_first p ps all skipped event is found none = next_placed p ps all skipped is (sym none ∙ found)

@@ -38,7 +38,7 @@ abbrev pub events_behind : List Placed → ℕ → List Event
 events_behind [] k = []
 events_behind (p ∷ ps) k = drop k (events_of p) ++ all_events ps
 
--- what a host is asked for while it makes turns: a step of a hart, or else a drain of at most so many bytes
+-- what a host is asked for in a run of turns: a step of a hart, or else a drain of at most `drain` bytes
 abbrev pub asked_at : (host drain : ℕ) → (hart : Option ℕ) → Event
 asked_at host drain (Some hart) = At host (Board (Step hart))
 asked_at host drain None = At host (Board (Drain drain))
@@ -49,7 +49,7 @@ turns_in [] = 0
 turns_in (Some hart ∷ asked) = suc (turns_in asked)
 turns_in (None ∷ asked) = turns_in asked
 
--- events are so many turns of a host, one or more, and the drains between them and after them
+-- the events are this many turns of a host, at least one, with the drains between them and after them
 pub record AreTurns (host turns : ℕ) (events : List Event) : Type 0 where
   pub drain : ℕ
   pub asked : List (Option ℕ)
@@ -57,13 +57,13 @@ pub record AreTurns (host turns : ℕ) (events : List Event) : Type 0 where
   pub turns_are : turns_in asked ≡ turns
   pub some : 0 < turns
 
--- events begin with so many turns of a host
+-- the events begin with this many turns of a host, and `rest` follows
 pub record BeginsWith (host turns : ℕ) (events rest : List Event) : Type 0 where
   pub run : List Event
   pub are : AreTurns host turns run
   pub split : events ≡ run ++ rest
 
--- events begin with a piece, and these are behind it
+-- the events begin with this piece, and `rest` follows
 abbrev pub IsPiece : Piece → (events rest : List Event) → Type 0
 IsPiece (piece.Event e) events rest = events ≡ e ∷ rest
 IsPiece (piece.Turns t) events rest = BeginsWith t.host t.turns events rest

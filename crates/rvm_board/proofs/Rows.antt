@@ -1,4 +1,4 @@
--- Rows: harts that take their turns one after the other, behind those of the board that took theirs.
+-- Rows: the harts of a board that take their turns one after the other, after those that took theirs.
 use Rattle.std.proofs.Common.{◌≡◌, ℕ, suc, ◌+◌, ◌-◌, ◌%◌, ◌<◌, ◌≤◌, true, List, [], ◌∷◌, ◌++◌, All, append_assoc, length, length-append, get_or, set, refl, sym, ap, ◌∙◌, subst, arith}
 use Rattle.std.proofs.lemmas.List.{get_or-append-add, get_or_default, length-set, set-append_right}
 use Rattle.rvm_hart.specs.Machine.{BusState, HartState, machine}
@@ -18,7 +18,7 @@ harts_reserve b board = λ k blank within.
     ap (λ (x : HartState). x.csrs.hart) (get_or_default b.harts k blank (new_hart 0 0) within) ∙ board.numbers k within in
     omega (arith, number, within, board.reservations)
 
--- so has each hart behind one that took its turn
+-- so has each hart after one that took its turn
 pub rest_reserves : (x y : HartState) (hs others : List HartState) (b c : BusState) → hs ≡ x ∷ others
     → All (λ z. z.csrs.hart < length b.shared.reservations) hs → straight.Goes execute x.pc x b y.pc y c
     → is_straight (machine x b) ≡ true → All (λ z. z.csrs.hart < length c.shared.reservations) others
@@ -53,13 +53,13 @@ row_takes front rest x y old b c so made =
           (row_goes_on h old now (board_of (set harts h y) c) (machine y c) so.turns below so.size strode refl);
     }
 
--- all harts from one on, of which all but the last `behind` take their turns
+-- of these harts all but the last `behind` take their turns
 abbrev pub Goes : (hs new : List HartState) (b c : BusState) (behind : ℕ) → Type 0
 Goes hs new b c behind =
     (front : List HartState) → (old : BoardState) → Row (length front) old (front ++ hs) b
     → Row (length front + (length hs - behind)) old (front ++ new) c
 
--- one hart, and those behind it
+-- one hart, and those after it
 one_and_rest : (front others new : List HartState) (x y : HartState) (behind : ℕ) (old : BoardState) (b c d : BusState)
     → behind ≤ length others → Goes others new c d behind → Row (length front) old (front ++ (x ∷ others)) b
     → Strides (machine x b) (machine y c) b.dirty c.dirty → Row (length front + (suc (length others) - behind)) old (front ++ (y ∷ new)) d

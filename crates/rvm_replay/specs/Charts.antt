@@ -1,5 +1,6 @@
 -- The chart of an order, as SVG: a lane for each host, in which the turns of the guest lie as bars, and what was asked of
--- its moves. To the right the turns go on, as many as all hosts were asked for.
+-- its moves. To the right the turns go on, as many as all hosts were asked for: one turn is one unit of the lanes' own
+-- coordinates, which are stretched to their width (SVG 2, "The viewBox attribute", "The preserveAspectRatio attribute").
 use Rattle.std.specs.Prelude.{ℕ, suc, zero, ◌+◌, ◌*◌, ◌==◌, max, if◌then◌else◌, List, [], ◌∷◌, ◌++◌, Option, Some, None, codes}
 use Rattle.std.specs.Fmt.{decimal}
 use Rattle.rvm_board.specs.declared.event.BoardEvent.TheVariants.{Step}
@@ -55,8 +56,8 @@ abbrev pub after_all : Drawing → List Event → Drawing
 after_all d [] = d
 after_all d (e ∷ es) = after_all (after d e) es
 
--- a box from one turn to another, of this height and so far from above, up to its colour; its outline is seen however
--- few turns it has
+-- a box from one turn to another, of this height and with its top at y, up to its colour (SVG 2, "Path data"); its outline
+-- has the same width however few turns the box has ("Vector effects")
 unfoldable pub box_text : (from until y height : ℕ) → List ℕ
 box_text from until y height =
     codes "<path d=\"M" ++ (decimal from ++ (codes " " ++ (decimal y ++ (codes "H" ++ (decimal until
@@ -82,7 +83,7 @@ copies_title n =
 abbrev pub copies_text : Copies → List ℕ
 copies_text c = box_text c.from c.until (40 * c.host + 8) 8 ++ copies_title c.count
 
--- a mark at a turn, so far from above, of this colour, with what was asked
+-- a mark at a turn, with its top at y, of this colour; its title says what was asked (SVG 2, "The title and desc elements")
 unfoldable pub mark_at : (turn y : ℕ) → (colour asked : List ℕ) → List ℕ
 mark_at t y colour asked =
     codes "<path d=\"M" ++ (decimal t ++ (codes " " ++ (decimal y ++ (codes "v32\" stroke=\"" ++ (colour
@@ -144,7 +145,7 @@ piece_drawn d (piece.Turns t) = turns_drawn d t.host
 abbrev pub rest_drawn : Drawing → List ℕ
 rest_drawn d = bar_out d.turn d.bar ++ copies_out d.copies
 
--- where the name of a lane stands, so far from above
+-- where the name of a lane stands, with its baseline at y
 unfoldable pub lane_place : (y : ℕ) → List ℕ
 lane_place y = codes "<text x=\"4\" y=\"" ++ decimal y ++ codes "\">"
 
@@ -163,13 +164,13 @@ chart_begin height =
     codes "<svg xmlns=\"http://www.w3.org/2000/svg\" width=\"1000\" height=\"" ++ (decimal height
     ++ (codes "\" font-family=\"sans-serif\" font-size=\"14\">" ++ codes "\n"))
 
--- how the lanes of a chart begin, which are so high together, and in which this many turns have room
+-- how the lanes of a chart begin, which have this height together, and room for this many turns
 unfoldable pub lanes_begin : (height turns : ℕ) → List ℕ
 lanes_begin height turns =
     codes "<svg x=\"24\" width=\"960\" height=\"" ++ (decimal height ++ (codes "\" viewBox=\"0 0 " ++ (decimal turns
     ++ (codes " " ++ (decimal height ++ (codes "\" preserveAspectRatio=\"none\">" ++ codes "\n"))))))
 
--- how the lanes of a chart and it end, with the number of turns so far from above
+-- how the lanes of a chart and the chart end, with the number of turns at y
 unfoldable pub chart_end : (y turns : ℕ) → List ℕ
 chart_end y turns =
     codes "</svg>\n<text x=\"24\" y=\"" ++ (decimal y ++ (codes "\">turns 0 to " ++ (decimal turns

@@ -99,7 +99,7 @@ fn write_lane<O: Write>(host: u8, output: &mut O) -> Result<(), LinkFault>
     Ok(())
 }
 
-/// Writes where the name of a lane stands, so far from above.
+/// Writes where the name of a lane stands, with its baseline at `y`.
 #[tactic(auto, unfolding(crate::specs::Charts::lane_place))]
 fn write_lane_place<O: Write>(y: u32, output: &mut O) -> Result<(), LinkFault>
     ensures { OnOk result (Appends (O.contents output.old) (O.contents output.new) (lane_place y)) }
@@ -108,7 +108,7 @@ fn write_lane_place<O: Write>(y: u32, output: &mut O) -> Result<(), LinkFault>
     Ok(())
 }
 
-/// Writes how the lanes of a chart begin, which are so high together, and in which this many turns have room.
+/// Writes how the lanes of a chart begin, which have this height together, and room for this many turns.
 #[tactic(auto, unfolding(crate::specs::Charts::lanes_begin))]
 fn write_lanes_begin<O: Write>(height: u32, turns: u64, output: &mut O) -> Result<(), LinkFault>
     ensures { OnOk result (Appends (O.contents output.old) (O.contents output.new) (lanes_begin height turns)) }
@@ -120,7 +120,7 @@ fn write_lanes_begin<O: Write>(height: u32, turns: u64, output: &mut O) -> Resul
     Ok(())
 }
 
-/// Writes how the lanes of a chart and it end, with the number of turns so far from above.
+/// Writes how the lanes of a chart and the chart end, with the number of turns at `y`.
 #[tactic(auto, unfolding(crate::specs::Charts::chart_end))]
 fn write_end<O: Write>(y: u32, turns: u64, output: &mut O) -> Result<(), LinkFault>
     ensures { OnOk result (Appends (O.contents output.old) (O.contents output.new) (chart_end y turns)) }

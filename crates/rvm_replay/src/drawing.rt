@@ -331,7 +331,7 @@ fn write_copies_title<O: Write>(count: u64, output: &mut O) -> Result<(), LinkFa
     Ok(())
 }
 
-/// Writes a box from one turn to another, of this height and so far from above, up to its colour.
+/// Writes a box from one turn to another, of this height and with its top at `y`, up to its colour.
 #[tactic(auto, unfolding(crate::specs::Charts::box_text))]
 fn write_box<O: Write>(
     from: u64,
@@ -363,7 +363,7 @@ fn write_mark<O: Write>(
     write_mark_at(turn, 40 * u32::from(host) + 4, colour, asked, output)
 }
 
-/// Writes a mark at a turn, so far from above, of this colour, with what was asked.
+/// Writes a mark at a turn, with its top at `y`, of this colour, with what was asked as its title.
 #[tactic(auto, unfolding(crate::specs::Charts::mark_at))]
 fn write_mark_at<O: Write>(
     turn: u64,

@@ -11,7 +11,7 @@ pub(crate) fn show_replay<P: Write>(files: &[JournalFile<'_>], index: usize, pro
     let _lost = write_replay(file.name, index + 1, files.len(), progress);
 }
 
-/// Writes that the host of the journal with this name, this one of so many, does again what it tells.
+/// Writes that the host of the journal with this name is replayed: journal `number` of `of`.
 fn write_replay<P: Write>(
     name: &str,
     number: usize,
