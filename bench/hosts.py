@@ -1,13 +1,16 @@
 #!/usr/bin/env python3
-"""How long a guest of 16 MiB takes from one process to another, and for how long it stands still, beside QEMU; and how fast
-a guest runs in a host process, beside `run`.
+"""How long a guest of 16 MiB takes from one process to another, and for how long it stands still, beside QEMU; how fast it runs
+while its pages are copied; and how fast a guest runs in a host process, beside `run`.
 
-    hosts.py [--rvmove PROGRAM] [--moves N] [--qemu PROGRAM] [--turns N]
+    hosts.py [--rvmove PROGRAM] [--moves N] [--qemu PROGRAM] [--turns N] [--copying]
 
 Both move the same guest over loopback: examples/farm/fill.s, which fills 4096 pages and then writes 16 of them all the
 time, and count.s, which leaves nearly all pages zero. Moves of both alternate, N of each (20). rvmove's figures are those that
 `tell` writes; the pause ends when the source has heard that the guest runs. QEMU's are `total-time` and `downtime` of
 `query-migrate`, with no limit of its bandwidth; they count whole milliseconds. Wants qemu-system-riscv32.
+
+Then fill.s is moved N times with each of some bandwidths: how long a move takes, and how many turns the guest makes in it until
+its pause, beside as long a time without a move. With --copying this alone is measured.
 
 Then count.s makes N turns (1000000000) by `run` and in a host that is not asked to move it, with one hart and with four: millions of
 turns a second, and the most memory that the host has used after a tenth of the turns and at their end.
@@ -36,13 +39,13 @@ def free_port():
 class Hosts:
     """Two host processes; the guest goes to and fro."""
 
-    def __init__(self, program, folder, image):
+    def __init__(self, program, folder, image, *options):
         self.program, self.folder, self.at = program, folder, "A"
         peers = folder / "peers"
         peers.write_text(f"A 127.0.0.1:{free_port()}\nB 127.0.0.1:{free_port()}\n")
         self.processes = [
             subprocess.Popen(
-                [program, "host", name, *words, "--peers", peers, "--control", folder / f"{name}.socket"],
+                [program, "host", name, *words, *options, "--peers", peers, "--control", folder / f"{name}.socket"],
                 stdin=subprocess.DEVNULL, stdout=subprocess.DEVNULL, stderr=subprocess.DEVNULL,
             )
             for name, words in (("A", [image, "--pages", "4096"]), ("B", []))
@@ -65,6 +68,20 @@ class Hosts:
         self.at = to
         time.sleep(0.2)
         return int(found[1]), int(found[2])
+
+    def speeds(self):
+        """Turns a millisecond without a move, and in one until the pause; and the milliseconds of the move."""
+        begun, first = time.monotonic(), turns_of(self.program, self.folder / f"{self.at}.socket")
+        time.sleep(0.1)
+        alone = (turns_of(self.program, self.folder / f"{self.at}.socket") - first) / (time.monotonic() - begun) / 1e3
+        to = "B" if self.at == "A" else "A"
+        answers = subprocess.run([self.program, "tell", self.folder / f"{self.at}.socket"], capture_output=True, text=True,
+                                 input=f"status\nmove {to}\nstatus\n").stdout
+        found = re.search(r"turns (\d+)\n.*ms (\d+) paused (\d+)\n.*turns (\d+)\n", answers, re.S)
+        self.at = to
+        time.sleep(0.2)
+        before, whole, paused, after = map(int, found.groups())
+        return alone, (after - before) / (whole - paused), whole
 
     def end(self):
         for name in "AB":
@@ -173,14 +190,33 @@ def line(name, moves):
     )
 
 
+def copying(program, moves):
+    """Prints how fast the guest runs while its pages are copied, with each of some bandwidths."""
+    for bandwidth in (None, 500, 200, 100, 50):
+        with tempfile.TemporaryDirectory() as name:
+            folder = Path(name)
+            image = folder / "guest.elf"
+            subprocess.run([program, "asm", FARM / "fill.s", image], check=True)
+            hosts = Hosts(program, folder, image, *(["--bandwidth", str(bandwidth)] if bandwidth else []))
+            seen = [hosts.speeds() for _ in range(moves)]
+            hosts.end()
+        alone, moved, times = (statistics.median(figures) for figures in zip(*seen))
+        shares = sorted(made / usual for usual, made, _ in seen)
+        share = f"{statistics.median(shares):.2f} ({shares[0]:.2f} to {shares[-1]:.2f})"
+        print(f"bandwidth {bandwidth}: move {times:.1f} ms; {alone / 1e3:.0f} million turns a second, {moved / 1e3:.0f} in a move, {share}", flush=True)
+
+
 def main():
     parser = argparse.ArgumentParser(description=__doc__, formatter_class=argparse.RawDescriptionHelpFormatter)
     parser.add_argument("--rvmove", type=Path, default=ROOT / "build" / "rvmove")
     parser.add_argument("--qemu", default="qemu-system-riscv32")
     parser.add_argument("--moves", type=int, default=20)
     parser.add_argument("--turns", type=int, default=1_000_000_000)
+    parser.add_argument("--copying", action="store_true")
     given = parser.parse_args()
     program = given.rvmove.resolve()
+    if given.copying:
+        return copying(program, given.moves)
     for guest in ("fill", "count"):
         with tempfile.TemporaryDirectory() as name:
             folder = Path(name)
@@ -194,6 +230,7 @@ def main():
             for rival in rivals:
                 rivals[rival].end()
                 print(guest, line(rival, moves[rival]), flush=True)
+    copying(program, given.moves)
     with tempfile.TemporaryDirectory() as name:
         folder = Path(name)
         image = folder / "guest.elf"

@@ -19,6 +19,7 @@ pub struct CommandLine<'a> {
 #[derive(Debug, Drop)]
 pub enum Arguments<'a> {
     Run(RunArguments<'a>),
+    Live(LiveArguments<'a>),
     Orders(OrdersArguments<'a>),
     Asm(AsmArguments<'a>),
     Dis(DisArguments<'a>),
@@ -29,6 +30,7 @@ pub enum Arguments<'a> {
     Host(HostArguments<'a>),
     Tell(TellArguments<'a>),
     Replay(ReplayArguments<'a>),
+    ReplayTurns(ReplayTurnsArguments<'a>),
     AuditJournals(AuditJournalsArguments<'a>),
 }
 
@@ -80,6 +82,22 @@ pub struct RunArguments<'a> {
     /// of their numbers.
     pub seed: Option<u32>,
     ghost steps_allowed: { (1 ≤ steps) × (steps ≤ 1000000000) },
+}
+
+/// The arguments of a live run: of `rvmove run --input -`, whose guest gets what is typed as it comes, and of `rvmove run
+/// --journal`, which keeps a journal of what happens to the guest, as a host does.
+#[derive(Debug, Drop)]
+pub struct LiveArguments<'a> {
+    pub guest: GuestArguments<'a>,
+    /// The file whose bytes come to the console, if any; `-` is standard input.
+    pub input: Option<&'a str>,
+    /// The file of the journal, if one is kept.
+    pub journal: Option<&'a str>,
+    /// The most turns that the run makes, 1 to 1000000000, if there is a limit. Without one it ends once the guest halts.
+    pub steps: Option<u32>,
+    /// What the status of the program tells.
+    pub status: StatusOf,
+    ghost steps_allowed: { ForSome steps (λ n. (1 ≤ n) × (n ≤ 1000000000)) },
 }
 
 /// The arguments of `rvmove run --orders`, whose guest is run by the seeds 0, 1 and so on, each time from its image.
@@ -230,12 +248,16 @@ pub struct HostArguments<'a> {
     pub patience: u32,
     /// The most turns that are made in a second, 1 to 1000000000, if there is a limit.
     pub rate: Option<u32>,
+    /// The most megabytes, each of 1000000 bytes, that a move sends in a second while the guest runs, 1 to 1000000, if there is
+    /// a limit.
+    pub bandwidth: Option<u32>,
     /// Whether the process ends once the guest has halted here.
     pub until_halt: bool,
     /// Whether the status tells how the guest ended here.
     pub verdict: bool,
     ghost patience_allowed: { (1 ≤ patience) × (patience ≤ 1000000000) },
     ghost rate_allowed: { ForSome rate (λ r. (1 ≤ r) × (r ≤ 1000000000)) },
+    ghost bandwidth_allowed: { ForSome bandwidth (λ b. (1 ≤ b) × (b ≤ 1000000)) },
 }
 
 /// The arguments of `rvmove tell`.
@@ -258,6 +280,21 @@ pub struct ReplayArguments<'a> {
     pub until: Option<u32>,
     /// The file of an extended session of the debugger, which then has the guest, if there is one; `-` is standard input.
     pub script: Option<&'a str>,
+}
+
+/// The arguments of `rvmove replay --turns`, which has the guest of a world's hosts do again its first turns, at whichever
+/// host it made them.
+#[derive(Debug, Drop)]
+pub struct ReplayTurnsArguments<'a> {
+    /// The files of the journals of a world's hosts, 1 to 8.
+    pub journals: ArrayVec<&'a str, 8>,
+    /// The file of the image of the guest that moves between the hosts.
+    pub image: &'a str,
+    /// The number of turns, 1 to 4294967295.
+    pub turns: u32,
+    /// The file of an extended session of the debugger, which then has the guest; `-` is standard input.
+    pub script: &'a str,
+    ghost turns_allowed: { 1 ≤ turns },
 }
 
 /// The arguments of `rvmove audit-journals`.

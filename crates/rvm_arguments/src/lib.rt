@@ -7,7 +7,7 @@ mod arguments;
 
 pub use arguments::{
     Arguments, AsmArguments, AuditJournalsArguments, CommandLine, DebugArguments, DisArguments,
-    GuestArguments, HostArguments, MoveArguments, OrdersArguments, ReplayArguments, Report,
-    ReportArguments, RunArguments, ScriptArguments, StatusOf, TellArguments, TraceArguments,
-    WordRange,
+    GuestArguments, HostArguments, LiveArguments, MoveArguments, OrdersArguments, ReplayArguments,
+    ReplayTurnsArguments, Report, ReportArguments, RunArguments, ScriptArguments, StatusOf,
+    TellArguments, TraceArguments, WordRange,
 };

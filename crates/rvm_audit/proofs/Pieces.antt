@@ -1,5 +1,5 @@
 -- Turns that lie in one piece of an order.
-use Rattle.std.proofs.Common.{◌≡◌, ◌∙◌, ℕ, zero, suc, ◌+◌, ◌*◌, ◌%◌, ◌≤◌, List, [], ◌∷◌, ◌++◌, Option, Some, None, ap, arith, map, mul-suc, refl, subst, suc-mul, sym}
+use Rattle.std.proofs.Common.{◌≡◌, ◌∙◌, ℕ, zero, suc, ◌+◌, ◌*◌, ◌%◌, List, [], ◌∷◌, ◌++◌, Option, Some, None, ap, arith, map, refl, subst, suc-mul, sym}
 use Rattle.std.specs.Prelude.{slice_get}
 use Rattle.std.proofs.lemmas.List.{map-append}
 use Rattle.rvm_board.specs.declared.event.BoardEvent.TheVariants.{Drain, Step}
@@ -79,12 +79,6 @@ rounds_are_turns host turn harts steps drain n turns is some = record {
   turns_are = rounds_count turn harts steps drain n ∙ sym is;
   some = omega (arith, some);
 }
-
--- of the entries of rounds, one of each round is a drain
-pub without_drains : (count steps len : ℕ) → len ≡ count * (steps + 1) → (count ≤ len) × (len ≡ count * steps + count)
-without_drains count steps len is =
-    let all : count * (steps + 1) ≡ count * steps + count = ap (λ n. count * n) (omega arith) ∙ mul-suc count steps ∙ omega arith in
-    (omega (arith, is, all), is ∙ all)
 
 -- an order begins with the turns of its first piece
 pub begins : (host turns : ℕ) (p : Placed) (ps all : List Placed) → all ≡ p ∷ ps → AreTurns host turns (events_of p)

@@ -1,6 +1,6 @@
 //! Events in order. Steps and rounds are kept as the runs that they are in a journal.
 
-ghost use Rattle.std.specs.Prelude.{◌≡◌, ◌∷◌, ◌++◌, ◌+◌, ◌*◌, ◌<◌, ◌^◌, [], IfOk, IfSome, MatchOption, OnOk, Some, slice_get};
+ghost use Rattle.std.specs.Prelude.{◌≡◌, ◌∷◌, ◌++◌, ◌+◌, ◌<◌, ◌^◌, [], IfOk, IfSome, MatchOption, OnOk, Some, slice_get};
 ghost use Rattle.rvm_audit.specs.Placed.{AreTurns, BeginsWith, IsPiece, all_events, events_behind, events_of, rounds_at, steps_at};
 ghost use Rattle.rvm_message.specs.declared.event.Command.{Command};
 ghost use Rattle.rvm_message.specs.declared.event.HostEvent.TheVariants.{Do};
@@ -231,19 +231,11 @@ fn turns_of_rounds(host: u8, rounds: &Rounds) -> Option<HostTurns>
     ensures { IfSome result (λ t. AreTurns t.host t.turns (rounds_at host rounds.now.turn rounds.now.harts
         rounds.now.steps rounds.now.drain rounds.now.count)) }
 {
-    let turns = turn_count(rounds);
+    let turns = rounds.turns();
     if turns == 0 {
         return None;
     }
     Some(HostTurns { host, turns })
-}
-
-/// How many turns rounds have.
-#[tactic(auto, using(crate::proofs::Pieces::without_drains))]
-fn turn_count(rounds: &Rounds) -> u32
-    ensures { result ≡ rounds.now.count * rounds.now.steps }
-{
-    rounds.len() - rounds.count
 }
 
 /// The event of one piece of an order with this index, from 0; none past the last.

@@ -2,6 +2,7 @@ pub mod Events
 pub mod Asked
 pub mod Logs
 pub mod Halts
+pub mod Limits
 pub mod Looks
 pub mod Workers
 pub mod Ends

@@ -2,6 +2,8 @@
 
 ghost use Rattle.std.specs.Prelude.{◌≡◌};
 
+use std::sync::Wait;
+use std::thread;
 use std::time::{Clock, Duration};
 
 /// The first wait of a mover for an answer, in milliseconds.
@@ -109,6 +111,15 @@ impl Course {
     /// Doubles the wait for the next answer, since none came in time, up to the longest.
     pub(crate) fn wait_longer(&mut self) {
         self.wait = self.wait.saturating_mul(2).min(LAST_WAIT);
+    }
+
+    /// Sleeps until what was sent in the move has taken as long as it takes at `bandwidth` megabytes a second, at a host that
+    /// has sent this many bytes by now; a bandwidth of 0 counts as 1.
+    pub(crate) fn keep_bandwidth<R: Wait + Clock>(&self, rt: &R, bandwidth: u32, sent: u64) {
+        let bytes = sent.saturating_sub(self.sent);
+        let wanted = Duration::from_micros(bytes / u64::from(bandwidth.max(1)));
+        let spent = now(rt).saturating_sub(self.began);
+        thread::sleep(rt, wanted.saturating_sub(spent));
     }
 
     /// Notes that the guest was paused now.

@@ -1,9 +1,10 @@
 //! The worker that makes the turns of the guest's harts.
 
-ghost use Rattle.std.specs.Prelude.{◌≢◌, OnOk};
+ghost use Rattle.std.specs.Prelude.{◌≡◌, ◌≢◌, ◌+◌, true, IfSome, None, OnOk, is_some};
 ghost use Rattle.rvm_cell.specs.Asked.{AreAllOf};
 ghost use Rattle.rvm_cell.specs.Console.{IsInput, IsShown};
 ghost use Rattle.rvm_cell.specs.Halts.{EndsSo};
+ghost use Rattle.rvm_cell.specs.Limits.{AreSpent, MayBeMade};
 
 use crate::access::Access;
 use crate::console::show;
@@ -33,6 +34,8 @@ pub struct HartsPlan {
     pub rate: Option<u32>,
     /// Whether the worker ends once the guest is halted here.
     pub until_halt: bool,
+    /// The most turns that are made, if there is a limit.
+    pub most: Option<u64>,
     /// Whether the worker is to end.
     pub stop: AtomicBool,
     /// Whether a move is going on.
@@ -50,14 +53,16 @@ pub enum HartsEnd {
     Stopped,
     /// The guest is halted here, with this status.
     Halted(u8),
+    /// All turns were made that may be made.
+    Spent,
     /// What the guest sent could not be written. What it sends from now on stays in its console.
     ConsoleFault,
 }
 
 impl HartsPlan {
-    /// The most turns of the next slice; if there is a rate, no more than take a hundredth of a second, but at least
-    /// one.
-    fn next_slice(&self) -> u32 {
+    /// The most turns of the next slice if there is no limit of turns; if there is a rate, no more than take a hundredth of
+    /// a second, but at least one.
+    fn unlimited_slice(&self) -> u32 {
         let slice = if self.moves.load(Ordering::SeqCst) {
             self.slice_in_move
         } else {
@@ -68,11 +73,35 @@ impl HartsPlan {
             None => slice,
         }
     }
+
+    /// The most turns of the next slice, after `made` turns. None if no more turns may be made.
+    fn next_slice(&self, made: u64) -> Option<u32>
+        ensures spent { result ≡ None → AreSpent self.now.most made }
+        ensures within { IfSome result (λ n. MayBeMade self.now.most (made + n)) }
+    {
+        within_limit(self.most, made, self.unlimited_slice())
+    }
+}
+
+/// At most `slice` turns, which may be made after `made` others, if no more than `most` may be made in all and there is such
+/// a limit. None if all these were made.
+fn within_limit(most: Option<u64>, made: u64, slice: u32) -> Option<u32>
+    ensures spent { result ≡ None → AreSpent most made }
+    ensures within { IfSome result (λ n. MayBeMade most (made + n)) }
+{
+    let Some(most) = most else {
+        return Some(slice);
+    };
+    if most <= made {
+        return None;
+    }
+    Some(u64::from(slice).min(most - made) as u32)
 }
 
 /// Makes turns of the guest's harts while the guest is here, writes what it sends to `output`, and hands it what is
-/// typed. The worker ends when it is told to, when the console cannot be written, or, if `until_halt` is set, when the
-/// guest is halted. It reports once, to `errors`, that the guest is halted.
+/// typed. The worker ends when it is told to, when the console cannot be written, when `plan.most` turns were made, if
+/// there is such a limit, or, if `until_halt` is set, when the guest is halted. It reports once, to `errors`, that the guest
+/// is halted.
 #[tactic(auto, using(crate::proofs::Shown::none_shown))]
 pub fn harts_worker<L: Hosting, A: Access<L>, W: Write + Drop, O: Write, E: Write, R: Wait + Clock>(
     rt: &R,
@@ -86,6 +115,7 @@ pub fn harts_worker<L: Hosting, A: Access<L>, W: Write + Drop, O: Write, E: Writ
     ensures shown { result ≢ HartsEnd.ConsoleFault → IsShown L.gave (A.asked access.old) (A.asked access.new)
         (O.contents output.old) (O.contents output.new) }
     ensures halted { EndsSo L.gave result }
+    ensures spent { result ≡ HartsEnd.Spent → is_some plan.now.most ≡ true }
 {
     let mut turn = 0u64;
     let mut pace = Pace::new(rt);
@@ -93,8 +123,11 @@ pub fn harts_worker<L: Hosting, A: Access<L>, W: Write + Drop, O: Write, E: Writ
         if plan.stop.load(Ordering::SeqCst) {
             return HartsEnd::Stopped;
         }
+        let Some(count) = plan.next_slice(turn) else {
+            return HartsEnd::Spent;
+        };
         let seen = station.news.count(rt);
-        let slice = access.slice(turn, plan.next_slice());
+        let slice = access.slice(turn, count);
         turn = turn.wrapping_add(u64::from(slice.made));
         plan.turns
             .fetch_add(u64::from(slice.made), Ordering::SeqCst);

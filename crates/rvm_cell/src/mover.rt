@@ -32,6 +32,8 @@ pub struct MovePlan {
     pub policy: Policy,
     /// For how long nothing may be heard or done before the move is given up, while that may be.
     pub patience: Duration,
+    /// The most megabytes, each of 1000000 bytes, that are sent in a second while the guest runs, if there is a limit.
+    pub bandwidth: Option<u32>,
 }
 
 /// How a move ended.
@@ -297,6 +299,9 @@ fn copy<L: Hosting, A: Access<L>, W: Write + Drop, R: Wait + Clock>(
         HostReply::Copied { .. } => {
             course.copies = course.copies.saturating_add(1);
             course.heard(rt);
+            if let Some(bandwidth) = plan.bandwidth {
+                course.keep_bandwidth(rt, bandwidth, station.bytes_sent());
+            }
         }
         HostReply::RoundEnded { left, .. } => {
             course.rounds = course.rounds.saturating_add(1);

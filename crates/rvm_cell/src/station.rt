@@ -50,6 +50,19 @@ pub struct Station<L: Hosting, W: Write + Drop> {
 }
 
 impl<L: Hosting, W: Write + Drop> Station<L, W> {
+    /// The station of host `id` of a world of so many hosts, with no connection. Fails if memory runs out.
+    pub fn new(alloc: Global, id: u8, hosts: u8) -> Result<Station<L, W>, AllocError> {
+        Ok(Station {
+            id,
+            alloc,
+            routes: Routes::new(alloc, hosts, STREAM_VERSION)?,
+            news: News::new(),
+            console: Mutex::new(()),
+            questions: AtomicU64::new(0),
+            sent: AtomicU64::new(0),
+        })
+    }
+
     /// The number of bytes of all frames that were sent.
     pub fn bytes_sent(&self) -> u64 {
         self.sent.load(Ordering::SeqCst)

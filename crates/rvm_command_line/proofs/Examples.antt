@@ -100,3 +100,21 @@ pub a_chart_has_a_file : value (codes "rvmove" ∷ codes "audit-journals" ∷ co
     (codes "chart") ≡ Some (Some (codes "b"))
 unfolding walked
 a_chart_has_a_file = refl
+
+-- the words of a replay of turns
+abbrev replay_words : List Text
+replay_words =
+    codes "rvmove" ∷ codes "replay" ∷ codes "a" ∷ codes "b" ∷ codes "--turns" ∷ codes "7" ∷ codes "--image" ∷ codes "c" ∷ []
+
+pub a_replay_has_all_its_journals : option_map (λ command. all_of (codes "journal") command.1) (subcommand_of program replay_words)
+    ≡ Some (Some (codes "a" ∷ codes "b" ∷ []))
+unfolding walked
+a_replay_has_all_its_journals = refl
+
+pub a_replay_has_its_turns : value replay_words (codes "turns") ≡ Some (Some (codes "7"))
+unfolding walked
+a_replay_has_its_turns = refl
+
+pub a_run_has_its_journal : value (codes "rvmove" ∷ codes "run" ∷ codes "a" ∷ codes "--journal" ∷ codes "b" ∷ []) (codes "journal") ≡ Some (Some (codes "b"))
+unfolding walked
+a_run_has_its_journal = refl

@@ -1,5 +1,5 @@
 -- What arguments are, by the values that `clap` found for the options of a command.
-use Rattle.std.specs.Prelude.{◌≡◌, ◌≤◌, ◌+◌, ◌*◌, ◌%◌, ℕ, Bool, true, false, [], ◌∷◌, Option, Some, None, option_map, map, codes}
+use Rattle.std.specs.Prelude.{◌≡◌, ◌≤◌, ◌+◌, ◌*◌, ◌%◌, ◌||◌, ℕ, Bool, true, false, is_some, [], ◌∷◌, Option, Some, None, option_map, map, codes}
 use Rattle.std.specs.Str.Parse.{IsNumeral, digits_value}
 use Rattle.clap.specs.Walk.{Row, Text, all_of, first_of, one_of}
 use Rattle.std.specs.Prelude.{List, find}
@@ -8,14 +8,16 @@ use Rattle.std.specs.Str.{bytes_eq}
 use Rattle.clap.specs.declared.parser.matches.ValueSource.{ValueSource}
 use Rattle.clap.specs.declared.parser.matches.ValueSource.TheVariants.{CommandLine}
 use Rattle.rvm_arguments.specs.declared.arguments.Arguments.{Arguments}
-use Rattle.rvm_arguments.specs.declared.arguments.Arguments.TheVariants.{Run, Orders, Asm, Dis, Debug, Script, Move, Audit, Host, Tell, Replay, AuditJournals}
+use Rattle.rvm_arguments.specs.declared.arguments.Arguments.TheVariants.{Run, Live, Orders, Asm, Dis, Debug, Script, Move, Audit, Host, Tell, Replay, ReplayTurns, AuditJournals}
 use Rattle.rvm_arguments.specs.declared.arguments.AuditJournalsArguments.{AuditJournalsArguments}
 use Rattle.rvm_arguments.specs.declared.arguments.DebugArguments.{DebugArguments}
 use Rattle.rvm_arguments.specs.declared.arguments.GuestArguments.{GuestArguments}
 use Rattle.rvm_arguments.specs.declared.arguments.HostArguments.{HostArguments}
+use Rattle.rvm_arguments.specs.declared.arguments.LiveArguments.{LiveArguments}
 use Rattle.rvm_arguments.specs.declared.arguments.MoveArguments.{MoveArguments}
 use Rattle.rvm_arguments.specs.declared.arguments.OrdersArguments.{OrdersArguments}
 use Rattle.rvm_arguments.specs.declared.arguments.ReplayArguments.{ReplayArguments}
+use Rattle.rvm_arguments.specs.declared.arguments.ReplayTurnsArguments.{ReplayTurnsArguments}
 use Rattle.rvm_arguments.specs.declared.arguments.Report.{Report}
 use Rattle.rvm_arguments.specs.declared.arguments.Report.TheVariants.{Coverage, Profile, SavedGuest, Signature}
 use Rattle.rvm_arguments.specs.declared.arguments.ReportArguments.{ReportArguments}
@@ -115,8 +117,31 @@ IsReport pages rows None =
     × (first_of (codes "profile") rows ≡ None) × (first_of (codes "save") rows ≡ None)
 IsReport pages rows (Some r) = IsReportTo pages rows r.file.now r.report
 
+-- a value came from the words, and is no default
+abbrev pub is_from_words : Option ValueSource → Bool
+is_from_words (Some CommandLine) = true
+is_from_words _ = false
+
+-- whether an option stands among the words
+abbrev pub is_given : (option : Text) → List Row → Bool
+is_given option rows = is_from_words (option_and_then (λ r. r.source) (find (λ r. bytes_eq r.id option) rows))
+
+-- there is a limit if and only if an option stands among the words, and it is the option's number
+abbrev pub IsLimit : (option : Text) → List Row → Option ℕ → Type 0
+IsLimit option rows None = is_given option rows ≡ false
+IsLimit option rows (Some n) = IsNumber (first_of option rows) n
+
+-- whether a file is named that stands for standard input
+abbrev pub is_standard : (name : Option Text) → Bool
+is_standard None = false
+is_standard (Some name) = bytes_eq name (codes "-")
+
+-- whether a live run is asked for: one that keeps a journal, or reads standard input
+abbrev pub is_live : List Row → Bool
+is_live rows = is_some (first_of (codes "journal") rows) || is_standard (first_of (codes "input") rows)
+
 -- a guest, its input, its turns, what the status tells, what is looked at while it runs, what is reported of it, and the
--- seed of the order of its harts; no other runs are asked for
+-- seed of the order of its harts; neither a live run nor several runs are asked for
 pub record IsRun (rows : List Row) (run : RunArguments) : Type 0 where
   pub guest : IsGuest rows run.guest
   pub input : first_of (codes "input") rows ≡ option_map (λ s. s.now) run.input
@@ -127,9 +152,25 @@ pub record IsRun (rows : List Row) (run : RunArguments) : Type 0 where
   pub report : IsReport run.guest.pages rows run.report
   pub seed : IsOptionalNumber (first_of (codes "order") rows) run.seed
   pub alone : first_of (codes "orders") rows ≡ None
+  pub recorded : is_live rows ≡ false
+
+-- a guest, its input and its journal, the limit of its turns, and what the status tells; a live run is asked for, and no
+-- order of harts, no end at faults, no trace and no report
+pub record IsLive (rows : List Row) (asked : LiveArguments) : Type 0 where
+  pub guest : IsGuest rows asked.guest
+  pub input : first_of (codes "input") rows ≡ option_map (λ s. s.now) asked.input
+  pub journal : first_of (codes "journal") rows ≡ option_map (λ s. s.now) asked.journal
+  pub steps : IsLimit (codes "steps") rows asked.steps
+  pub status : IsStatusOf (one_of (codes "verdict") rows) (one_of (codes "exit-status") rows) asked.status
+  pub live : is_live rows ≡ true
+  pub no_seed : first_of (codes "order") rows ≡ None
+  pub alone : first_of (codes "orders") rows ≡ None
+  pub on_at_faults : IsFlag (one_of (codes "stop-at-fault") rows) false
+  pub no_trace : IsTrace rows None
+  pub no_report : IsReport asked.guest.pages rows None
 
 -- a guest, its input and its turns, whether it stops at faults, and the number of seeds by which it is run; a verdict is
--- asked for, and no other status, no seed, no trace and no report
+-- asked for, and no other status, no seed, no trace, no report and no live run
 pub record IsOrders (rows : List Row) (asked : OrdersArguments) : Type 0 where
   pub guest : IsGuest rows asked.guest
   pub input : first_of (codes "input") rows ≡ option_map (λ s. s.now) asked.input
@@ -140,6 +181,7 @@ pub record IsOrders (rows : List Row) (asked : OrdersArguments) : Type 0 where
   pub no_seed : first_of (codes "order") rows ≡ None
   pub no_trace : IsTrace rows None
   pub no_report : IsReport asked.guest.pages rows None
+  pub recorded : is_live rows ≡ false
 
 -- a guest, and whether the session is extended
 pub record IsDebug (rows : List Row) (asked : DebugArguments) : Type 0 where
@@ -163,15 +205,6 @@ pub record IsMove (rows : List Row) (asked : MoveArguments) : Type 0 where
   pub stream : IsNumber (first_of (codes "stream") rows) asked.stream
   pub verdict : IsFlag (one_of (codes "verdict") rows) asked.verdict
 
--- a value came from the words, and is no default
-abbrev pub is_from_words : Option ValueSource → Bool
-is_from_words (Some CommandLine) = true
-is_from_words _ = false
-
--- whether an option stands among the words
-abbrev pub is_given : (option : Text) → List Row → Bool
-is_given option rows = is_from_words (option_and_then (λ r. r.source) (find (λ r. bytes_eq r.id option) rows))
-
 -- no image was named, and no word says anything of a guest
 abbrev pub HasNoGuest : List Row → Type 0
 HasNoGuest rows =
@@ -183,7 +216,7 @@ abbrev pub IsOptionalGuest : List Row → Option GuestArguments → Type 0
 IsOptionalGuest rows None = HasNoGuest rows
 IsOptionalGuest rows (Some guest) = IsGuest rows guest
 
--- a host: its name, its guest if it has one, where it is reached, how long it waits, and what its status tells
+-- a host: its name, its guest if it has one, where it is reached, how long it waits, how fast it goes, and what its status tells
 pub record IsHost (rows : List Row) (host : HostArguments) : Type 0 where
   pub name : first_of (codes "name") rows ≡ Some host.name.now
   pub peers : first_of (codes "peers") rows ≡ Some host.peers.now
@@ -195,6 +228,7 @@ pub record IsHost (rows : List Row) (host : HostArguments) : Type 0 where
   pub journal : first_of (codes "journal") rows ≡ option_map (λ s. s.now) host.journal
   pub patience : IsNumber (first_of (codes "patience") rows) host.patience
   pub rate : IsOptionalNumber (first_of (codes "rate") rows) host.rate
+  pub bandwidth : IsOptionalNumber (first_of (codes "bandwidth") rows) host.bandwidth
   pub until_halt : IsFlag (one_of (codes "until-halt") rows) host.until_halt
   pub verdict : IsFlag (one_of (codes "verdict") rows) host.verdict
 
@@ -203,13 +237,23 @@ pub record IsTell (rows : List Row) (tell : TellArguments) : Type 0 where
   pub control : first_of (codes "socket") rows ≡ Some tell.control.now
   pub line : first_of (codes "line") rows ≡ option_map (λ s. s.now) tell.line
 
--- the journal of a host, the image with which the host began, if one is named, the most events that it does again, and
--- the session of a debugger
+-- the journal of a host, and no other, the image with which the host began, if one is named, the most events that it does
+-- again, and the session of a debugger
 pub record IsReplay (rows : List Row) (asked : ReplayArguments) : Type 0 where
-  pub journal : first_of (codes "journal") rows ≡ Some asked.journal.now
+  pub journal : all_of (codes "journal") rows ≡ Some (asked.journal.now ∷ [])
   pub image : first_of (codes "image") rows ≡ option_map (λ s. s.now) asked.image
   pub until : IsOptionalNumber (first_of (codes "until") rows) asked.until
   pub script : first_of (codes "script") rows ≡ option_map (λ s. s.now) asked.script
+  pub no_turns : first_of (codes "turns") rows ≡ None
+
+-- the journals of a world's hosts, the image of the guest that moves between them, how many turns it makes again, and the
+-- session of a debugger
+pub record IsReplayTurns (rows : List Row) (asked : ReplayTurnsArguments) : Type 0 where
+  pub journals : all_of (codes "journal") rows ≡ Some (map (λ s. s.now) asked.journals.items)
+  pub image : first_of (codes "image") rows ≡ Some asked.image.now
+  pub turns : IsNumber (first_of (codes "turns") rows) asked.turns
+  pub script : first_of (codes "script") rows ≡ Some asked.script.now
+  pub no_until : first_of (codes "until") rows ≡ None
 
 -- the journals of a world's hosts, the image of the guest that moves between them, whether the order is written, and the
 -- file of a chart of it, if one is named
@@ -222,6 +266,7 @@ pub record IsAuditJournals (rows : List Row) (asked : AuditJournalsArguments) : 
 -- what the words of a command with this name ask for
 abbrev pub Gives : Text → List Row → Arguments → Type 0
 Gives name rows (Run run) = (name ≡ codes "run") × IsRun rows run
+Gives name rows (Live asked) = (name ≡ codes "run") × IsLive rows asked
 Gives name rows (Orders asked) = (name ≡ codes "run") × IsOrders rows asked
 Gives name rows (Debug asked) = (name ≡ codes "debug") × IsDebug rows asked
 Gives name rows (Script script) = (name ≡ codes "script") × IsScript rows script
@@ -230,6 +275,7 @@ Gives name rows (Audit asked) = (name ≡ codes "audit") × IsMove rows asked
 Gives name rows (Host host) = (name ≡ codes "host") × IsHost rows host
 Gives name rows (Tell tell) = (name ≡ codes "tell") × IsTell rows tell
 Gives name rows (Replay asked) = (name ≡ codes "replay") × IsReplay rows asked
+Gives name rows (ReplayTurns asked) = (name ≡ codes "replay") × IsReplayTurns rows asked
 Gives name rows (AuditJournals asked) = (name ≡ codes "audit-journals") × IsAuditJournals rows asked
 Gives name rows (Asm asm) =
     (name ≡ codes "asm") × (first_of (codes "source") rows ≡ Some asm.source.now)

@@ -117,9 +117,13 @@ abbrev pub with_order : App → App
 with_order command =
     with_rule (with_rule command (bounded (codes "order") 0 4294967295)) (bounded (codes "orders") 1 1000000)
 
+-- a command that takes the file of a journal
+abbrev pub with_journal : App → App
+with_journal command = with_rule command (option (codes "journal"))
+
 -- the command that runs a guest
 abbrev pub run : App
-run = with_order (with_report (with_watch (with_status (with_turns (new_app (codes "run"))))))
+run = with_journal (with_order (with_report (with_watch (with_status (with_turns (new_app (codes "run")))))))
 
 -- the command that makes an ELF file of an assembly text
 abbrev pub asm : App
@@ -159,13 +163,11 @@ abbrev pub with_hosting : App → App
 with_hosting command =
     with_rule
     (with_rule
+    (with_rule
     (with_rule (with_rule command (option (codes "input"))) (number (codes "patience") (codes "10000") 1000000000))
     (bounded (codes "rate") 1 1000000000))
+    (bounded (codes "bandwidth") 1 1000000))
     (flag (codes "until-halt"))
-
--- a command that takes the file of a journal
-abbrev pub with_journal : App → App
-with_journal command = with_rule command (option (codes "journal"))
 
 -- a command that takes the name of a host, and perhaps the image of a guest
 abbrev pub with_name : App → App
@@ -181,19 +183,21 @@ host =
 abbrev pub tell : App
 tell = with_rule (with_rule (new_app (codes "tell")) (needed (codes "socket"))) (allowed (codes "line"))
 
--- a command that takes the words that say how far a journal is replayed, and what is asked of its guest then
+-- a command that takes the words that say how far journals are replayed, and what is asked of their guest then
 abbrev pub with_replay : App → App
 with_replay command =
-    with_rule (with_rule command (bounded (codes "until") 0 4294967295)) (option (codes "script"))
-
--- the command that does again what a journal tells
-abbrev pub replay : App
-replay =
-    with_replay (with_rule (with_rule (new_app (codes "replay")) (needed (codes "journal"))) (option (codes "image")))
+    with_rule
+    (with_rule (with_rule command (bounded (codes "until") 0 4294967295)) (bounded (codes "turns") 1 4294967295))
+    (option (codes "script"))
 
 -- one or more words, as many as there are
 abbrev pub several : Text → Rule
 several id = record (needed id) { range = Some (record { start_inclusive = 1; end_inclusive = usize_max }) }
+
+-- the command that does again what journals tell
+abbrev pub replay : App
+replay =
+    with_replay (with_rule (with_rule (new_app (codes "replay")) (several (codes "journal"))) (option (codes "image")))
 
 -- the command that looks for one order of what the journals of a world's hosts tell
 abbrev pub audit_journals : App

@@ -35,6 +35,8 @@ ran its instruction. With --profile the file has, after the last turn, a line fo
 costliest first. With --save the file has the guest as it is after the last turn; a later run whose IMAGE is
 that file goes on from there, with the harts and pages of the guest, whatever --harts and --pages say.
 --signature, --coverage, --profile and --save exclude one another.
+With `--input -`, standard input comes to the console as it is typed. With --journal FILE gets what happens to the
+guest, as that of `rvmove host --journal`; `rvmove replay` does it again. Both exclude what looks at a run.
 With --order a generator with the seed S draws the hart of each turn; the same S gives the same run.
 With --orders the guest is run by the seeds 0 to N - 1, each time from its image, up to the first run whose
 verdict is not 0. Standard output has what the guest sent in that run, standard error `order S` and how it
@@ -150,14 +152,17 @@ happened, 1 if something did not, 3 if an answer was lost: then ask for the stat
 const REPLAY_HELP: &str = "\
 Example: rvmove replay a.journal --image hello.elf
 
-JOURNAL is what `rvmove host --journal` wrote. The host is made anew, and does again what each line tells;
+JOURNAL is what `rvmove host --journal` or `rvmove run --journal` wrote. The host is made anew, and does again what each line tells;
 standard output has what the guest sent while it was there, standard error `replayed N events`. A line that
 was changed is told, and ends the replay. A host that began without a guest has no IMAGE.
 
 With --until the host does no more than the first N events, and no line behind them is looked at. With --script
 the guest that is then at the host is handed to the debugger: standard output has the answers to the lines of
 FILE, as `rvmove debug --extended` answers them, and nothing of what the guest sent before. FILE is - for
-standard input.";
+standard input.
+
+With --turns the journals of all hosts of a world are taken, and one order of them is looked for, as by
+`rvmove audit-journals`; --script gets the guest as it was after its first N turns, at whichever host that was.";
 
 /// The text below the help of `audit-journals`.
 const AUDIT_JOURNALS_HELP: &str = "\
@@ -532,8 +537,8 @@ fn run_command<'a>(alloc: Global) -> Made<'a>
         "Runs a guest, and writes what it sends",
         RUN_HELP,
     );
-    let run = status_command(turns_command(run, alloc), alloc);
-    order_command(report_command(watch_command(run, alloc), alloc), alloc)
+    let run = watch_command(status_command(turns_command(run, alloc), alloc), alloc);
+    journal_command(order_command(report_command(run, alloc), alloc), alloc)
 }
 
 /// Adds to a command the words for a guest, its turns and its input.
@@ -870,6 +875,16 @@ fn rate_option<'a>(alloc: Global) -> Arg<'a>
     bounded(alloc, "rate", "N", 1, 1_000_000_000, help)
 }
 
+/// The option `--bandwidth`: the most megabytes that a move sends in a second.
+fn bandwidth_option<'a>(alloc: Global) -> Arg<'a>
+    ensures rule { rule_of result ≡ bounded (codes "bandwidth") 1 1000000 }
+    ensures local { result.global ≡ false }
+{
+    let help =
+        "How many megabytes a move sends in a second at most, 1 to 1000000; if not given, as many as it can";
+    bounded(alloc, "bandwidth", "MB", 1, 1_000_000, help)
+}
+
 /// The flag `--until-halt`: whether the process of a host ends once the guest has halted there.
 fn until_halt_flag<'a>(alloc: Global) -> Arg<'a>
     ensures rule { rule_of result ≡ flag (codes "until-halt") }
@@ -885,10 +900,11 @@ fn hosting_command<'a>(command: Made<'a>, alloc: Global) -> Made<'a>
     let command = with_arg(command, input_option(alloc));
     let command = with_arg(command, patience_option(alloc));
     let command = with_arg(command, rate_option(alloc));
+    let command = with_arg(command, bandwidth_option(alloc));
     with_arg(command, until_halt_flag(alloc))
 }
 
-/// Adds to a command the option `--journal`: the file of the host's journal.
+/// Adds to a command the option `--journal`: the file of the journal.
 fn journal_command<'a>(command: Made<'a>, alloc: Global) -> Made<'a>
     ensures { (made : App) → IsMade command.entry made → IsMade result (with_journal made) }
 {
@@ -898,7 +914,7 @@ fn journal_command<'a>(command: Made<'a>, alloc: Global) -> Made<'a>
             alloc,
             "journal",
             "FILE",
-            "The file of its journal, in which each event at this host has a line",
+            "The file of the journal, in which what happens to the guest here has its lines",
         ),
     )
 }
@@ -955,21 +971,33 @@ fn replay_command<'a>(alloc: Global) -> Made<'a>
     let replay = new_command(
         alloc,
         "replay",
-        "Does again what the journal of a host tells, and writes what the guest sent there",
+        "Does again what the journals of hosts tell, and writes what the guest sent",
         REPLAY_HELP,
     );
-    let journal = needed(alloc, "journal", "JOURNAL", "The file of the journal");
-    let help = "The image of the guest with which the host began";
+    let help = "The file of the journal; with --turns the files of 1 to 8, each of another host";
+    let journal = several(alloc, "journal", "JOURNAL", help);
+    let help = "The image of the guest with which the host began; --turns wants it";
     let image = option(alloc, "image", "IMAGE", help);
     replay_options(with_arg(with_arg(replay, journal), image), alloc)
 }
 
-/// Adds to a command the words that say how far a journal is replayed, and what is asked of its guest then.
+/// Adds to a command the words that say how far journals are replayed, and what is asked of their guest then.
 fn replay_options<'a>(command: Made<'a>, alloc: Global) -> Made<'a>
     ensures { (made : App) → IsMade command.entry made → IsMade result (with_replay made) }
 {
     let command = with_arg(command, until_option(alloc));
+    let command = with_arg(command, replayed_turns_option(alloc));
     with_arg(command, session_option(alloc))
+}
+
+/// The option `--turns` of `replay`: how many turns the guest makes again, at whichever host it made them.
+fn replayed_turns_option<'a>(alloc: Global) -> Arg<'a>
+    ensures rule { rule_of result ≡ bounded (codes "turns") 1 4294967295 }
+    ensures local { result.global ≡ false }
+{
+    let help =
+        "How many turns are made again, at all hosts together, 1 to 4294967295; wants --script";
+    bounded(alloc, "turns", "N", 1, u32::MAX, help)
 }
 
 /// The option `--until` of `replay`: the most events that are done.

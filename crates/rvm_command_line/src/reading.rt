@@ -1,6 +1,6 @@
 //! Reads the words of a command line as arguments.
 
-ghost use Rattle.std.specs.Prelude.{◌≡◌, ◌≤◌, ◌&&◌, ℕ, nat_le, true, if◌then◌else◌, [], ◌∷◌, Some, IfErr, IfOk, IfSome, OnOk, None, codes, map, option_map};
+ghost use Rattle.std.specs.Prelude.{◌≡◌, ◌≤◌, ◌&&◌, ℕ, nat_le, false, true, if◌then◌else◌, [], ◌∷◌, Some, IfErr, IfOk, IfSome, OnOk, None, codes, map, option_map};
 ghost use Rattle.clap.specs.Faults.{fault_of};
 ghost use Rattle.clap.specs.Kinds.{HasKind};
 ghost use Rattle.clap.specs.Matches.{found_of};
@@ -9,7 +9,7 @@ ghost use Rattle.clap.specs.Walk.{all_of, first_of, one_of, rows_of};
 ghost use Rattle.clap.specs.Words.{kind_of};
 ghost use Rattle.clap.specs.declared.error.kind.ErrorKind.TheVariants as kind;
 ghost use Rattle.rvm_arguments.specs.declared.arguments.StatusOf.TheVariants.{Verdict};
-ghost use Rattle.rvm_command_line.specs.Given.{Gives, IsAsked, IsAuditJournals, IsExplained, IsFlag, IsGuest, IsHost, IsInRam, IsMove, IsNumber, IsNumberOr, IsOptionalGuest, IsOptionalNumber, IsOrders, IsReplay, IsReport, IsSignature, IsStatusOf, IsTell, IsTrace, is_from_words, is_given};
+ghost use Rattle.rvm_command_line.specs.Given.{Gives, IsAsked, IsAuditJournals, IsExplained, IsFlag, IsGuest, IsHost, IsInRam, IsLimit, IsLive, IsMove, IsNumber, IsNumberOr, IsOptionalGuest, IsOptionalNumber, IsOrders, IsReplay, IsReplayTurns, IsReport, IsSignature, IsStatusOf, IsTell, IsTrace, is_from_words, is_given, is_live, is_standard};
 ghost use Rattle.rvm_text.specs.Numbers.{number_of};
 ghost use Rattle.rvm_command_line.specs.Program.{faults_of, program};
 
@@ -20,9 +20,9 @@ use clap::parser::ValueSource;
 use clap::{ArgMatches, Command, Error};
 use rvm_arguments::{
     Arguments, AsmArguments, AuditJournalsArguments, CommandLine, DebugArguments, DisArguments,
-    GuestArguments, HostArguments, MoveArguments, OrdersArguments, ReplayArguments, Report,
-    ReportArguments, RunArguments, ScriptArguments, StatusOf, TellArguments, TraceArguments,
-    WordRange,
+    GuestArguments, HostArguments, LiveArguments, MoveArguments, OrdersArguments, ReplayArguments,
+    ReplayTurnsArguments, Report, ReportArguments, RunArguments, ScriptArguments, StatusOf,
+    TellArguments, TraceArguments, WordRange,
 };
 use rvm_mem::{MAX_PAGES, PAGE_SIZE};
 use rvm_text::number as spelled;
@@ -31,6 +31,9 @@ use std::convert::AsStr;
 
 /// The address of the first byte of RAM.
 const RAM_BASE: u32 = 0x8000_0000;
+
+/// The name of a file that stands for standard input.
+const STANDARD_INPUT: &str = "-";
 
 /// The most harts that a board has.
 const MAX_HARTS: u32 = rvm_res::MAX_HARTS as u32;
@@ -64,6 +67,17 @@ const MAX_PATIENCE: u32 = 1_000_000_000;
 
 /// The most turns that a guest makes in a second.
 const MAX_RATE: u32 = 1_000_000_000;
+
+/// The most megabytes that a move sends in a second.
+const MAX_BANDWIDTH: u32 = 1_000_000;
+
+/// What is said if a live run is given what has no meaning in it.
+const LIVE_EXCLUDES: &str = "\
+--journal and --input - exclude --order, --stop-at-fault, --trace, --signature, --coverage, --profile and --save";
+
+/// What is said if `run --orders` is given what has no meaning in it.
+const ORDERS_EXCLUDE: &str =
+    "--orders excludes --trace, --signature, --coverage, --profile and --save";
 
 /// Reads the words of a command line: the command that they ask for, with its arguments, and whether its refusal is
 /// explained. The first word is the program's name. The error has `clap`'s text, and its `exit_code` is the status of
@@ -153,7 +167,7 @@ fn read_matches<'a>(matches: &ArgMatches<'a>) -> Result<Arguments<'a>, &'static 
         Some(("audit", words)) => Ok(Arguments::Audit(read_move(words)?)),
         Some(("host", host)) => Ok(Arguments::Host(read_host(host)?)),
         Some(("tell", tell)) => Ok(Arguments::Tell(read_tell(tell)?)),
-        Some(("replay", replay)) => Ok(Arguments::Replay(read_replay(replay)?)),
+        Some(("replay", replay)) => read_replay(replay),
         Some(("audit-journals", words)) => {
             Ok(Arguments::AuditJournals(read_audit_journals(words)?))
         }
@@ -167,6 +181,9 @@ fn read_run<'a>(run: &ArgMatches<'a>) -> Result<Arguments<'a>, &'static str>
 {
     if text(run, "orders").is_some() {
         return Ok(Arguments::Orders(read_orders(run)?));
+    }
+    if is_live(run) {
+        return Ok(Arguments::Live(read_live(run)?));
     }
     let guest = read_guest(run)?;
     let Some(steps) = number(run, "steps", 1, MAX_STEPS) else {
@@ -187,6 +204,60 @@ fn read_run<'a>(run: &ArgMatches<'a>) -> Result<Arguments<'a>, &'static str>
         report,
         seed,
     }))
+}
+
+/// Whether a live run is asked for: one that keeps a journal, or reads standard input.
+fn is_live(run: &ArgMatches) -> bool
+    ensures { result ≡ is_live (rows_of (found_of run.now)) }
+{
+    text(run, "journal").is_some() || is_standard(text(run, "input"))
+}
+
+/// Whether a file is named that stands for standard input.
+fn is_standard(name: Option<&str>) -> bool
+    ensures { result ≡ is_standard (option_map (λ s. s.now) name.entry) }
+{
+    match name {
+        Some(name) => name == STANDARD_INPUT,
+        None => false,
+    }
+}
+
+/// The arguments of a live run. Fails with a text that says which of them is not what it must be, or is given and has no
+/// meaning in such a run.
+fn read_live<'a>(run: &ArgMatches<'a>) -> Result<LiveArguments<'a>, &'static str>
+    requires live { is_live (rows_of (found_of run.now)) ≡ true }
+    requires alone { first_of (codes "orders") (rows_of (found_of run.now)) ≡ None }
+    ensures { IfOk result (IsLive (rows_of (found_of run.now))) }
+{
+    let guest = read_guest(run)?;
+    let steps = read_limit(run)?;
+    let status = read_status(run)?;
+    check_unwatched(run, guest.pages, LIVE_EXCLUDES)?;
+    if flag(run, "stop-at-fault") {
+        return Err(LIVE_EXCLUDES);
+    }
+    Ok(LiveArguments {
+        guest,
+        input: text(run, "input"),
+        journal: read_journal(run)?,
+        steps,
+        status,
+    })
+}
+
+/// The most turns of a live run, if that is given. Fails with a text if it is no number within its limits.
+fn read_limit(run: &ArgMatches) -> Result<Option<u32>, &'static str>
+    ensures within { IfOk result (λ limit. IfSome limit (λ n. (1 ≤ n) × (n ≤ 1000000000))) }
+    ensures limit { IfOk result (IsLimit (codes "steps") (rows_of (found_of run.now))) }
+{
+    if !is_given(run, "steps") {
+        return Ok(None);
+    }
+    match number(run, "steps", 1, MAX_STEPS) {
+        Some(steps) => Ok(Some(steps)),
+        None => Err("--steps takes a decimal number from 1 to 1000000000"),
+    }
 }
 
 /// The arguments of `run --orders`. Fails with a text that says which of them is not what it must be.
@@ -222,21 +293,38 @@ fn check_status(run: &ArgMatches) -> Result<(), &'static str>
     }
 }
 
-/// Fails with a text if `run --orders`, with this many pages of RAM, is given a seed, or a file for a trace or a report.
+/// Fails with a text if `run --orders`, with this many pages of RAM, is given a seed, or a file for a trace, a report or a
+/// journal, or is to read standard input.
 fn check_alone(run: &ArgMatches, pages: u32) -> Result<(), &'static str>
+    ensures seed { OnOk result (first_of (codes "order") (rows_of (found_of run.now)) ≡ None) }
+    ensures trace { OnOk result (IsTrace (rows_of (found_of run.now)) None) }
+    ensures report { OnOk result (IsReport pages (rows_of (found_of run.now)) None) }
+    ensures recorded { OnOk result (is_live (rows_of (found_of run.now)) ≡ false) }
+{
+    if text(run, "order").is_some() {
+        return Err("--order and --orders exclude each other");
+    }
+    if is_live(run) {
+        return Err("--orders excludes --journal and --input -");
+    }
+    check_unwatched(run, pages, ORDERS_EXCLUDE)
+}
+
+/// Fails with the text `why` if a run with this many pages of RAM is given a seed, or a file for a trace or a report.
+fn check_unwatched(run: &ArgMatches, pages: u32, why: &'static str) -> Result<(), &'static str>
     ensures seed { OnOk result (first_of (codes "order") (rows_of (found_of run.now)) ≡ None) }
     ensures trace { OnOk result (IsTrace (rows_of (found_of run.now)) None) }
     ensures report { OnOk result (IsReport pages (rows_of (found_of run.now)) None) }
 {
     if text(run, "order").is_some() {
-        return Err("--order and --orders exclude each other");
+        return Err(why);
     }
     let None = read_trace(run)? else {
-        return Err("--orders excludes --trace, --signature, --coverage, --profile and --save");
+        return Err(why);
     };
     match read_report(run, pages)? {
         None => Ok(()),
-        Some(_) => Err("--orders excludes --trace, --signature, --coverage, --profile and --save"),
+        Some(_) => Err(why),
     }
 }
 
@@ -610,6 +698,9 @@ fn read_host<'a>(host: &ArgMatches<'a>) -> Result<HostArguments<'a>, &'static st
     let Some(rate) = optional_number(host, "rate", 1, MAX_RATE) else {
         return Err("--rate takes a decimal number from 1 to 1000000000");
     };
+    let Some(bandwidth) = optional_number(host, "bandwidth", 1, MAX_BANDWIDTH) else {
+        return Err("--bandwidth takes a decimal number from 1 to 1000000");
+    };
     Ok(HostArguments {
         name,
         peers,
@@ -621,21 +712,22 @@ fn read_host<'a>(host: &ArgMatches<'a>) -> Result<HostArguments<'a>, &'static st
         journal: read_journal(host)?,
         patience,
         rate,
+        bandwidth,
         until_halt: flag(host, "until-halt"),
         verdict: flag(host, "verdict"),
     })
 }
 
-/// The file of the journal of a host, if it keeps one. Fails with a text if it is a file that the host reads.
-fn read_journal<'a>(host: &ArgMatches<'a>) -> Result<Option<&'a str>, &'static str>
-    ensures { IfOk result (λ file. first_of (codes "journal") (rows_of (found_of host.now))
+/// The file of the journal of a host or of a run, if it keeps one. Fails with a text if it is a file that is read.
+fn read_journal<'a>(command: &ArgMatches<'a>) -> Result<Option<&'a str>, &'static str>
+    ensures { IfOk result (λ file. first_of (codes "journal") (rows_of (found_of command.now))
         ≡ option_map (λ s. s.now) file) }
 {
-    let Some(file) = text(host, "journal") else {
+    let Some(file) = text(command, "journal") else {
         return Ok(None);
     };
     for read in ["image", "peers", "secret", "input"] {
-        if is_named(text(host, read), file) {
+        if is_named(text(command, read), file) {
             return Err("the file of --journal is one that is read");
         }
     }
@@ -686,20 +778,68 @@ fn read_tell<'a>(tell: &ArgMatches<'a>) -> Result<TellArguments<'a>, &'static st
 }
 
 /// The arguments of `replay`. Fails with a text that says which of them is not what it must be.
-fn read_replay<'a>(replay: &ArgMatches<'a>) -> Result<ReplayArguments<'a>, &'static str>
+fn read_replay<'a>(replay: &ArgMatches<'a>) -> Result<Arguments<'a>, &'static str>
+    ensures { IfOk result (Gives (codes "replay") (rows_of (found_of replay.now))) }
+{
+    if text(replay, "turns").is_some() {
+        return Ok(Arguments::ReplayTurns(read_replay_turns(replay)?));
+    }
+    Ok(Arguments::Replay(read_one_replay(replay)?))
+}
+
+/// The arguments of `replay` of one journal. Fails with a text that says which of them is not what it must be.
+fn read_one_replay<'a>(replay: &ArgMatches<'a>) -> Result<ReplayArguments<'a>, &'static str>
+    requires { first_of (codes "turns") (rows_of (found_of replay.now)) ≡ None }
     ensures { IfOk result (IsReplay (rows_of (found_of replay.now))) }
 {
-    let Some(journal) = text(replay, "journal") else {
+    let Some(names) = texts(replay, "journal") else {
         return Err("JOURNAL is missing");
     };
     let Some(until) = optional_number(replay, "until", 0, u32::MAX) else {
         return Err("--until takes a decimal number from 0 to 4294967295");
     };
     Ok(ReplayArguments {
-        journal,
+        journal: only_one(names)?,
         image: text(replay, "image"),
         until,
         script: text(replay, "script"),
+    })
+}
+
+/// The one journal that is named. Fails with a text if there are several.
+fn only_one<'a>(names: &[&'a str]) -> Result<&'a str, &'static str>
+    ensures { IfOk result (λ name. map (λ w. w.now) names.now ≡ name.now ∷ []) }
+{
+    match names {
+        [name] => Ok(*name),
+        _ => Err("several JOURNALs want --turns"),
+    }
+}
+
+/// The arguments of `replay --turns`. Fails with a text that says which of them is not what it must be.
+fn read_replay_turns<'a>(replay: &ArgMatches<'a>) -> Result<ReplayTurnsArguments<'a>, &'static str>
+    ensures { IfOk result (IsReplayTurns (rows_of (found_of replay.now))) }
+{
+    let Some(names) = texts(replay, "journal") else {
+        return Err("JOURNAL is missing");
+    };
+    let Some(turns) = number(replay, "turns", 1, u32::MAX) else {
+        return Err("--turns takes a decimal number from 1 to 4294967295");
+    };
+    let None = text(replay, "until") else {
+        return Err("--until and --turns exclude each other");
+    };
+    let Some(image) = text(replay, "image") else {
+        return Err("--turns wants --image");
+    };
+    let Some(script) = text(replay, "script") else {
+        return Err("--turns wants --script");
+    };
+    Ok(ReplayTurnsArguments {
+        journals: read_journals(names)?,
+        image,
+        turns,
+        script,
     })
 }
 
@@ -755,7 +895,7 @@ fn read_journals<'a>(names: &[&'a str]) -> Result<ArrayVec<&'a str, 8>, &'static
     let mut journals = ArrayVec::new();
     match journals.try_extend_from_slice(names) {
         Ok(()) => Ok(journals),
-        Err(_) => Err("audit-journals takes 1 to 8 JOURNALs"),
+        Err(_) => Err("there are 1 to 8 JOURNALs"),
     }
 }
 

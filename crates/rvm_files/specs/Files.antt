@@ -2,7 +2,7 @@
 use Rattle.std.specs.Prelude.{◌≡◌, ◌⊎◌, ◌<◌, ◌*◌, ◌^◌, ℕ, Bool, if◌then◌else◌, true, false, List, [], ◌++◌, codes, Option, None, Some, IfSome, length, take}
 use Rattle.std.specs.Borrow.{Bor}
 use Rattle.rvm_arguments.specs.declared.arguments.Arguments.{Arguments}
-use Rattle.rvm_arguments.specs.declared.arguments.Arguments.TheVariants.{Run, Orders, Asm, Dis, Debug, Script, Move, Audit, Host, Tell, Replay, AuditJournals}
+use Rattle.rvm_arguments.specs.declared.arguments.Arguments.TheVariants.{Run, Live, Orders, Asm, Dis, Debug, Script, Move, Audit, Host, Tell, Replay, ReplayTurns, AuditJournals}
 use Rattle.rvm_arguments.specs.declared.arguments.GuestArguments.{GuestArguments}
 use Rattle.rvm_arguments.specs.declared.arguments.Report.{Report}
 use Rattle.rvm_arguments.specs.declared.arguments.Report.TheVariants.{Profile}
@@ -105,6 +105,7 @@ IsLongSymbols files report r = IsLongInput files (symbols_name report) r
 abbrev pub IsTooLong : Named → Arguments → Refusal → Type 0
 IsTooLong files (Run a) r =
     IsLongImage files a.guest r ⊎ (IsLongInput files a.input r ⊎ IsLongSymbols files a.report r)
+IsTooLong files (Live a) r = ⊥
 IsTooLong files (Orders a) r = IsLongImage files a.guest r ⊎ IsLongInput files a.input r
 IsTooLong files (Asm a) r = IsLong (files a.source.now) max_size refusal.TooLong r
 IsTooLong files (Dis a) r = IsLong (files a.image.now) max_size refusal.TooLong r
@@ -115,6 +116,7 @@ IsTooLong files (Audit a) r = IsLongImage files a.guest r
 IsTooLong files (Host a) r = ⊥
 IsTooLong files (Tell a) r = ⊥
 IsTooLong files (Replay a) r = ⊥
+IsTooLong files (ReplayTurns a) r = ⊥
 IsTooLong files (AuditJournals a) r = ⊥
 
 -- why what a command line asks for does not begin: a file cannot be opened or read, memory ran out, or a file has more

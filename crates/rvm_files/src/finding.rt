@@ -20,7 +20,8 @@ use crate::refusal_report::RefusalReport;
 use crate::saved_fault::SavedFault;
 use rvm_arguments::{
     Arguments, AsmArguments, AuditJournalsArguments, DisArguments, GuestArguments, HostArguments,
-    OrdersArguments, ReplayArguments, Report, ReportArguments, RunArguments, ScriptArguments,
+    LiveArguments, OrdersArguments, ReplayArguments, ReplayTurnsArguments, Report, ReportArguments,
+    RunArguments, ScriptArguments,
 };
 use rvm_asm::{AsmError, assemble};
 use rvm_elf::read_image;
@@ -28,7 +29,7 @@ use rvm_refusal::Refusal;
 use std::alloc::Global;
 use std::str;
 
-/// The name of a file of `host` that stands for standard input.
+/// The name of a file that stands for standard input.
 const STANDARD_INPUT: &str = "-";
 
 /// The files of a command that was refused, and its report. A host has no such report.
@@ -47,6 +48,7 @@ impl<'b, F: NamedFiles> Refusing<'b, F> {
     {
         match arguments {
             Arguments::Run(run) => self.find_in_run(run),
+            Arguments::Live(live) => self.find_in_live(live),
             Arguments::Orders(orders) => self.find_in_orders(orders),
             Arguments::Asm(asm) => self.find_in_asm(asm),
             Arguments::Dis(dis) => self.find_in_dis(dis),
@@ -57,6 +59,7 @@ impl<'b, F: NamedFiles> Refusing<'b, F> {
             Arguments::Host(host) => self.find_in_host(host),
             Arguments::Tell(_) => None,
             Arguments::Replay(replay) => self.find_in_replay(replay),
+            Arguments::ReplayTurns(replay) => self.find_in_replay_turns(replay),
             Arguments::AuditJournals(audit) => self.find_in_audit(audit),
         }
     }
@@ -78,6 +81,22 @@ impl<'b, F: NamedFiles> Refusing<'b, F> {
             return Some(found);
         }
         self.find_in_first_guest(&run.guest)
+    }
+
+    /// What is wrong with the files of a live run, in the order in which it reads them.
+    fn find_in_live<'a>(&self, live: &LiveArguments<'a>) -> Option<Found<'a>>
+        ensures { IfSome result (IsTrue (F.bytes_of self.now.files.now)) }
+    {
+        if let Some(found) = self.find_in_image(&live.guest) {
+            return Some(found);
+        }
+        if let Some(found) = self.find_in_typed(live.input) {
+            return Some(found);
+        }
+        if let Some(found) = self.find_in_log(live.journal) {
+            return Some(found);
+        }
+        self.find_in_first_guest(&live.guest)
     }
 
     /// What is wrong with the files of `run --orders`.
@@ -211,14 +230,14 @@ impl<'b, F: NamedFiles> Refusing<'b, F> {
         if let Some(found) = self.find_in_file(host.peers, MAX_FILE_SIZE) {
             return Some(found);
         }
-        if let Some(found) = self.find_in_console(host.input) {
+        if let Some(found) = self.find_in_typed(host.input) {
             return Some(found);
         }
         self.find_in_log(host.journal)
     }
 
-    /// What is wrong with the file of the bytes for the console of a host, if it has one.
-    fn find_in_console<'a>(&self, input: Option<&'a str>) -> Option<Found<'a>>
+    /// What is wrong with a file that is read whole, if one is named, and not standard input.
+    fn find_in_typed<'a>(&self, input: Option<&'a str>) -> Option<Found<'a>>
         ensures { IfSome result (IsTrue (F.bytes_of self.now.files.now)) }
     {
         match input {
@@ -227,7 +246,7 @@ impl<'b, F: NamedFiles> Refusing<'b, F> {
         }
     }
 
-    /// What is wrong with the file of a host's journal, if it keeps one. The file is not made.
+    /// What is wrong with the file of a journal, if one is kept. The file is not made.
     #[tactic(auto, using(crate::proofs::Told::fault_is_true))]
     fn find_in_log<'a>(&self, journal: Option<&'a str>) -> Option<Found<'a>>
         ensures { IfSome result (IsTrue (F.bytes_of self.now.files.now)) }
@@ -249,10 +268,20 @@ impl<'b, F: NamedFiles> Refusing<'b, F> {
         if let Some(found) = self.find_in_file(replay.journal, MAX_JOURNAL_SIZE) {
             return Some(found);
         }
-        match replay.script {
-            Some(STANDARD_INPUT) => None,
-            script => self.find_in_optional(script),
+        self.find_in_typed(replay.script)
+    }
+
+    /// What is wrong with the files of `replay --turns`, in the order in which it reads them.
+    fn find_in_replay_turns<'a>(&self, replay: &ReplayTurnsArguments<'a>) -> Option<Found<'a>>
+        ensures { IfSome result (IsTrue (F.bytes_of self.now.files.now)) }
+    {
+        if let Some(found) = self.find_in_file(replay.image, MAX_FILE_SIZE) {
+            return Some(found);
         }
+        if let Some(found) = self.find_in_journals(replay.journals.as_slice()) {
+            return Some(found);
+        }
+        self.find_in_typed(Some(replay.script))
     }
 
     /// What is wrong with the files of `audit-journals`.

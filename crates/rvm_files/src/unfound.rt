@@ -101,7 +101,7 @@ fn unkept(arguments: &Arguments) -> Unfound {
     match arguments {
         Arguments::Debug(_) => Unfound::InputLine,
         Arguments::Run(_) => Unfound::Symbols,
-        Arguments::Replay(_) => Unfound::SessionLine,
+        Arguments::Replay(_) | Arguments::ReplayTurns(_) => Unfound::SessionLine,
         _ => Unfound::Line,
     }
 }
@@ -117,7 +117,7 @@ fn too_long(arguments: &Arguments) -> Unfound {
 /// What has no order.
 fn unordered(arguments: &Arguments) -> Unfound {
     match arguments {
-        Arguments::AuditJournals(_) => Unfound::Journals,
+        Arguments::ReplayTurns(_) | Arguments::AuditJournals(_) => Unfound::Journals,
         _ => Unfound::Cause,
     }
 }
@@ -125,7 +125,7 @@ fn unordered(arguments: &Arguments) -> Unfound {
 /// What ends too early, or has a frame that may not stand there.
 fn unrestored(arguments: &Arguments) -> Unfound {
     match arguments {
-        Arguments::Run(_) => Unfound::SavedGuest,
+        Arguments::Run(_) | Arguments::Live(_) => Unfound::SavedGuest,
         _ => Unfound::Cause,
     }
 }
@@ -133,7 +133,7 @@ fn unrestored(arguments: &Arguments) -> Unfound {
 /// Which read or write may have failed.
 fn unwritten(arguments: &Arguments) -> Unfound {
     match arguments {
-        Arguments::Run(_) => Unfound::RunWrite,
+        Arguments::Run(_) | Arguments::Live(_) => Unfound::RunWrite,
         Arguments::Asm(_) => Unfound::AsmWrite,
         Arguments::Debug(_) => Unfound::DebugStream,
         Arguments::Move(_) | Arguments::Audit(_) => Unfound::MoveStream,

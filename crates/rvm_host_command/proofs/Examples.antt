@@ -1,9 +1,11 @@
 -- What a host answers, and what status it has, worked out by hand.
-use Rattle.std.proofs.Common.{◌≡◌, ◌≢◌, ℕ, List, [], ◌∷◌, Some, true, false, ap, arith, codes, refl}
+use Rattle.std.proofs.Common.{◌≡◌, ◌≢◌, ℕ, List, [], ◌∷◌, None, Some, true, false, ap, arith, codes, refl}
 use Rattle.std.specs.Prelude.{slice_index}
-use Rattle.rvm_cell.specs.declared.host_harts.HartsEnd.TheVariants.{Stopped, Halted, ConsoleFault}
+use Rattle.rvm_arguments.specs.declared.arguments.StatusOf.TheVariants as tells
+use Rattle.rvm_cell.specs.declared.host_harts.HartsEnd.TheVariants.{Stopped, Halted, Spent, ConsoleFault}
 use Rattle.rvm_host_command.specs.Answered.{AreAnswers, AreAnswered, GoesOn, Says}
 use Rattle.rvm_host_command.specs.Hosted.{host_status}
+use Rattle.rvm_host_command.specs.Live.{live_status}
 use Rattle.rvm_host_command.specs.Lines.{IsToldLine, line_size}
 use Rattle.rvm_host_command.specs.declared.tell_command.Told.TheVariants.{Done, NotDone}
 
@@ -86,3 +88,19 @@ a_console_fault_has_1 = refl
 -- the status of a host without a verdict
 pub a_halt_with_7_is_not_told_unasked : host_status false (Halted 7) ≡ 0
 a_halt_with_7_is_not_told_unasked = refl
+
+-- the status of a live run, with a verdict, and in place of the guest's own
+pub a_live_halt_with_7_fails : live_status tells.Verdict (Some (Halted 7)) ≡ 3
+a_live_halt_with_7_fails = refl
+
+pub a_live_halt_with_7_has_7 : live_status tells.Guest (Some (Halted 7)) ≡ 7
+a_live_halt_with_7_has_7 = refl
+
+pub spent_turns_have_4 : live_status tells.Verdict (Some Spent) ≡ 4
+spent_turns_have_4 = refl
+
+pub a_live_console_fault_has_1 : live_status tells.Command (Some ConsoleFault) ≡ 1
+a_live_console_fault_has_1 = refl
+
+pub a_live_run_that_did_not_begin_has_1 : live_status tells.Command None ≡ 1
+a_live_run_that_did_not_begin_has_1 = refl

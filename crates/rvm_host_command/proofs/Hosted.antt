@@ -1,10 +1,25 @@
--- The status of a host is that of its end.
-use Rattle.std.proofs.Common.{◌≡◌, ◌≢◌, ℕ, List, Option, Result, Ok, Err}
+-- What a host of its world shows, and that its status is that of its end.
+use Rattle.std.proofs.Common.{◌≡◌, ◌≢◌, ℕ, List, length, Option, Result, Ok, Err}
 use Rattle.std.specs.Prelude.{IfOk}
 use Rattle.rvm_arguments.specs.declared.arguments.HostArguments.{HostArguments}
+use Rattle.rvm_board.specs.Guest.{GuestState}
 use Rattle.rvm_cell.specs.declared.host_harts.HartsEnd.{HartsEnd}
 use Rattle.rvm_cell.specs.declared.host_harts.HartsEnd.TheVariants.{ConsoleFault}
-use Rattle.rvm_host_command.specs.Hosted.{HasBegun, IsHosted, IsHostedTo, status_told}
+use Rattle.rvm_host_command.specs.Hosted.{HasBegun, HasWorked, IsGuestOf, IsHosted, IsHostedTo, IsMember, opening_of, status_told}
+
+-- a host of its world, with its guest, worked until it came to its end
+pub hosted : (a : HostArguments) (peers image : List ℕ) (world : List (List ℕ)) (number : ℕ) (guest : Option GuestState)
+    (end : HartsEnd) (before now : Option (List ℕ)) → IsMember a.name.now peers world number → IsGuestOf a.guest image guest
+    → HasWorked (opening_of guest number (length world)) end before now → IsHosted a peers image end before now
+hosted a peers image world number guest end before now member guest_is worked = record {
+  world = world;
+  number = number;
+  guest = guest;
+  world_is = member.world_is;
+  named = member.named;
+  guest_is = guest_is;
+  worked = worked;
+}
 
 pub hosted_to : {F : Type 0} (a : HostArguments) (peers image : List ℕ) (before now : Option (List ℕ))
     (ended : Result HartsEnd F) (status : ℕ) → IfOk ended (λ end. end ≢ ConsoleFault → IsHosted a peers image end before now)

@@ -1,9 +1,9 @@
 -- A line is read byte by byte.
-use Rattle.std.proofs.Common.{◌≡◌, ◌≢◌, ◌∙◌, ◌≤◌, ◌<◌, ◌+◌, ◌==◌, ℕ, zero, suc, List, [], ◌∷◌, ◌++◌, append-nil, length, map, Option, None, Some, false, true, ap, arith, refl, subst, sym}
+use Rattle.std.proofs.Common.{◌≡◌, ◌≢◌, ◌∙◌, ◌≤◌, ◌<◌, ◌+◌, ◌==◌, ℕ, List, [], ◌∷◌, ◌++◌, append-nil, length, Option, None, Some, false, ap, arith, refl, subst, sym}
 use Rattle.std.proofs.lemmas.List.{append_assoc, length-append}
 use Rattle.std.specs.Io.BufRead.{drop_through}
 use Rattle.std.specs.Io.KnownBytes.{IsAtEnd}
-use Rattle.std.specs.Prelude.{IfSome, if◌then◌else◌, ⊤}
+use Rattle.std.specs.Prelude.{IfSome, ⊤}
 use Rattle.rvm_host_command.specs.Lines.{GivesByte, IsLongLine, IsToldLine, line_size}
 
 -- no byte is a line feed

@@ -9,7 +9,7 @@ use Rattle.rvm_cell.specs.Events.{IsAnswer}
 use Rattle.rvm_cell.specs.Console.{IsShown}
 use Rattle.rvm_cell.specs.Halts.{EndsSo}
 use Rattle.rvm_cell.specs.declared.host_harts.HartsEnd.{HartsEnd}
-use Rattle.rvm_cell.specs.declared.host_harts.HartsEnd.TheVariants.{Stopped, Halted, ConsoleFault}
+use Rattle.rvm_cell.specs.declared.host_harts.HartsEnd.TheVariants.{Stopped, Halted, Spent, ConsoleFault}
 use Rattle.rvm_greeting.specs.Peers.{is_letter_of, peers_in}
 use Rattle.rvm_debug.specs.Words.{lines}
 
@@ -26,6 +26,11 @@ IsGuestOf (Some a) image (Some g) = IsGuestIn a.raw a.harts a.pages image g.gues
 -- the host with this number, among this many, has this name
 abbrev pub IsNamed : (name : List ℕ) → (count number : ℕ) → Type 0
 IsNamed name count number = (number < count) × (is_letter_of number name ≡ true)
+
+-- the file of peers names this world, whose host with this number has this name
+pub record IsMember (name peers : List ℕ) (world : List (List ℕ)) (number : ℕ) : Type 0 where
+  pub world_is : peers_in (lines peers) ≡ Some world
+  pub named : IsNamed name (length world) number
 
 -- the console shows what drains took of hosts that events reach from the opening host
 abbrev pub IsShownBy : (opening : PlainHost) → (before now : Option (List ℕ)) → Type 0
@@ -49,11 +54,13 @@ pub record IsHosted (a : HostArguments) (peers image : List ℕ) (end : HartsEnd
   pub guest_is : IsGuestOf a.guest image guest
   pub worked : HasWorked (opening_of guest number (length world)) end before now
 
--- the status of a host that ended so: if a verdict is asked for, 3 if the guest halted here with a status other than 0
+-- the status of a host that ended so: if a verdict is asked for, 3 if the guest halted here with a status other than 0. A
+-- host has no limit of turns; one that had spent them would be as one that was stopped
 abbrev pub host_status : (verdict : Bool) → HartsEnd → ℕ
 host_status verdict Stopped = 0
 host_status verdict (Halted zero) = 0
 host_status verdict (Halted (suc n)) = if verdict then 3 else 0
+host_status verdict Spent = 0
 host_status verdict ConsoleFault = 1
 
 -- the status of a host that ended so, and 1 if it did not begin

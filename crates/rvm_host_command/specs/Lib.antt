@@ -1,4 +1,5 @@
 pub mod Hosted
+pub mod Live
 pub mod Told
 pub mod Looks
 pub mod Lines

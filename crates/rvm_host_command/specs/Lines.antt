@@ -1,5 +1,5 @@
 -- The lines that a host is told.
-use Rattle.std.specs.Prelude.{◌≡◌, ◌≢◌, ◌≤◌, ◌<◌, ◌==◌, ℕ, zero, suc, List, [], ◌∷◌, Option, Some, None, if◌then◌else◌}
+use Rattle.std.specs.Prelude.{◌≡◌, ◌≢◌, ◌≤◌, ◌<◌, ◌==◌, ℕ, suc, List, [], ◌∷◌, Option, Some, None, if◌then◌else◌}
 
 -- the most bytes of a line, without its line feed
 abbrev pub max_line : ℕ

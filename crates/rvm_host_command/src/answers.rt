@@ -223,6 +223,7 @@ fn answer_move<
         to,
         policy,
         patience: process.patience,
+        bandwidth: process.bandwidth,
     };
     process.harts.moves.store(true, Ordering::SeqCst);
     let mut watcher = Watcher {

@@ -1,4 +1,4 @@
-//! Why a host process does not begin, or ends before it is told to.
+//! Why a host process or a live run does not begin, or a host process ends before it is told to.
 
 use rvm_command::refused::Refused;
 use rvm_greeting::PeersFault;
@@ -6,7 +6,7 @@ use std::alloc::AllocError;
 use std::io;
 use thiserror::Error;
 
-/// Why a host process does not begin, or ends before it is told to.
+/// Why a host process or a live run does not begin, or a host process ends before it is told to.
 #[derive(Clone, Copy, Debug, Error)]
 pub enum HostFault {
     /// Memory ran out, or the system started no thread.

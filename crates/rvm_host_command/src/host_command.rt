@@ -1,14 +1,13 @@
 //! `rvmove host`: a host in this process.
 
-ghost use Rattle.std.specs.Prelude.{◌≡◌, ◌≢◌, ◌≤◌, ◌⊎◌, IfErr, IfOk, true};
-ghost use Rattle.rvm_host_command.specs.Hosted.{HasBegun, IsGuestOf, IsHosted, IsHostedTo, IsNamed, host_status, status_told};
-ghost use Rattle.std.specs.Option.{option_and_then};
-ghost use Rattle.rvm_recorder.specs.Logs.{IsEmpty};
+ghost use Rattle.std.specs.Prelude.{◌≡◌, ◌≢◌, ◌≤◌, ◌⊎◌, IfErr, IfOk, length, true};
+ghost use Rattle.rvm_host_command.specs.Hosted.{HasBegun, HasWorked, IsGuestOf, IsHosted, IsHostedTo, IsMember, IsNamed, host_status, opening_of, status_told};
 ghost use Rattle.rvm_cell.specs.declared.host_harts.HartsEnd.TheVariants.{ConsoleFault};
 
 use crate::address::{checked_address, is_path, listen_at, listen_for_operators};
 use crate::fault::{HostFault, Place};
 use crate::hosting::{HostPlan, HostStart, Numbers, draw_numbers, work_at};
+use crate::keeping::{begin_journal, image_of};
 use crate::operators::Operators;
 use rvm_arguments::HostArguments;
 use rvm_board::Debugged;
@@ -16,11 +15,10 @@ use rvm_cell::{HartsEnd, InputQueue};
 use rvm_command::guest::read_guest;
 use rvm_greeting::{Peers, Secret, read_peers};
 use rvm_journal::{Header, Image, JournalWriter, letter_of};
-use rvm_mem::{Memory, PAGE_SIZE, PagedMemory};
+use rvm_mem::{Memory, PagedMemory};
 use rvm_refusal::LinkFault;
 use std::alloc::Global;
 use std::fs;
-use std::fs::File;
 use std::io::Write;
 use std::net::{Net, OpenListener};
 use std::random::RandomSource;
@@ -102,7 +100,7 @@ fn status_of(end: HartsEnd, verdict: bool) -> u8
 {
     match end {
         HartsEnd::ConsoleFault => 1,
-        HartsEnd::Stopped | HartsEnd::Halted(0) => 0,
+        HartsEnd::Stopped | HartsEnd::Spent | HartsEnd::Halted(0) => 0,
         HartsEnd::Halted(_) if verdict => FAILED,
         HartsEnd::Halted(_) => 0,
     }
@@ -110,6 +108,7 @@ fn status_of(end: HartsEnd, verdict: bool) -> u8
 
 /// Works at a host until it ends. Fails if it does not begin: a file, a name or an address is not as it must be, no
 /// random number can be drawn, memory runs out, or the system starts no thread.
+#[tactic(auto, using(crate::proofs::Hosted::hosted))]
 fn run_host<
     M: PagedMemory + Drop + Send,
     O: Write,
@@ -132,42 +131,155 @@ where
         files.now.image.now end (O.contents output.old) (O.contents output.new)) }
     ensures unbegun { IfErr result (λ fault. O.contents output.new ≡ O.contents output.old) }
 {
+    let member = read_member(rt, alloc, arguments.name, files)?;
+    let start = read_start::<M, R>(rt, alloc, arguments, files)?;
+    match listen(rt, arguments, &member) {
+        Ok(listeners) => {
+            let plan = plan_of(arguments, &member, &listeners, input);
+            let named = named_guest::<M>(arguments, files.image, &start.guest);
+            work_by::<M, O, E, R>(rt, alloc, arguments, &plan, start, named, output, errors)
+        }
+        Err(fault) => {
+            drop(start);
+            Err(fault)
+        }
+    }
+}
+
+/// Which host of which world a process has, and where it may listen.
+#[derive(Drop)]
+struct Member {
+    /// The hosts of the world.
+    peers: Peers,
+    /// The number of the host.
+    id: u8,
+    /// Whether only loopback addresses are allowed, since the hosts share no secret.
+    only_loopback: bool,
+}
+
+/// Where other hosts and operators connect to a host process. At neither listener does accepting a connection wait.
+#[derive(Drop)]
+struct Listeners<N: Drop> {
+    hosts: N,
+    operators: Operators<N>,
+}
+
+/// Reads which hosts the world has, and which of them has this name. Fails if the file of peers names no world or no such
+/// host, or if it names an address that is not allowed, since the hosts share no secret.
+fn read_member<R: Net>(
+    rt: &R,
+    alloc: Global,
+    name: &str,
+    files: &HostBytes<'_>,
+) -> Result<Member, HostFault>
+    ensures { IfOk result (λ m. IsMember name.now files.now.peers.now m.peers m.id) }
+{
     let peers = read_peers(alloc, files.peers)?;
-    let id = number_of(arguments.name, peers.count())?;
+    let id = number_of(name, peers.count())?;
+    let only_loopback = files.secret.is_none();
+    check_addresses(rt, &peers, only_loopback)?;
+    Ok(Member {
+        peers,
+        id,
+        only_loopback,
+    })
+}
+
+/// What the process is given at its start. Fails if the secret is empty, no random number can be drawn, or the guest cannot
+/// be loaded.
+fn read_start<M: PagedMemory + Drop, R: RandomSource>(
+    rt: &R,
+    alloc: Global,
+    arguments: &HostArguments,
+    files: &HostBytes<'_>,
+) -> Result<HostStart<M>, HostFault>
+    ensures { IfOk result (λ s. IsGuestOf arguments.now.guest files.now.image.now s.guest) }
+{
     let secret = secret_of(files.secret)?;
     let Ok(numbers) = draw_numbers(rt, arguments.guest.is_some()) else {
         return Err(HostFault::NoRandom);
     };
-    let only_loopback = files.secret.is_none();
-    check_addresses(rt, &peers, only_loopback)?;
     let guest = read(alloc, arguments, files.image)?;
-    let named = image_of::<M>(arguments, files.image, &guest);
-    let hosts = listen_for_hosts(rt, arguments, &peers, id, only_loopback)?;
-    let operators = listen_for_operators(rt, arguments.control)?;
-    let plan = HostPlan {
-        id,
-        peers: &peers,
-        hosts: &hosts,
-        operators: &operators,
-        input,
-        patience: Duration::from_millis(u64::from(arguments.patience)),
-        rate: arguments.rate,
-        until_halt: arguments.until_halt,
-    };
-    let start = HostStart {
+    Ok(HostStart {
         guest,
         secret,
         numbers,
-    };
-    let log = begin_journal::<R::Listener, R>(rt, alloc, arguments, named, &plan, numbers);
-    let ended = match log {
+    })
+}
+
+/// Listens for other hosts and for operators. Fails if an address is none, is not allowed, or cannot be listened at.
+fn listen<R: Files + Net>(
+    rt: &R,
+    arguments: &HostArguments,
+    member: &Member,
+) -> Result<Listeners<R::Listener>, HostFault> {
+    let hosts = listen_for_hosts(rt, arguments.listen, member)?;
+    let operators = listen_for_operators(rt, arguments.control)?;
+    Ok(Listeners { hosts, operators })
+}
+
+/// What the process works with, and how.
+fn plan_of<'a, N: Drop>(
+    arguments: &HostArguments,
+    member: &'a Member,
+    listeners: &'a Listeners<N>,
+    input: &'a InputQueue,
+) -> HostPlan<'a, N>
+    ensures id { result.id ≡ member.now.id }
+    ensures peers { result.peers.now ≡ member.now.peers }
+{
+    HostPlan {
+        id: member.id,
+        peers: &member.peers,
+        hosts: &listeners.hosts,
+        operators: &listeners.operators,
+        input,
+        patience: Duration::from_millis(u64::from(arguments.patience)),
+        rate: arguments.rate,
+        bandwidth: arguments.bandwidth,
+        until_halt: arguments.until_halt,
+    }
+}
+
+/// Begins the journal, if one is kept, reports where the host listens, and works at the host until it ends. `named` is its
+/// guest, if it has one, as the journal names it. Takes the socket of operators, if it is a file, away in the end. Fails if
+/// the journal cannot be written, memory runs out, or the system starts no thread.
+fn work_by<
+    M: PagedMemory + Drop + Send,
+    O: Write,
+    E: Write,
+    R: Files + Net + Threads + Wait + Clock + RandomSource + Sync,
+>(
+    rt: &R,
+    alloc: Global,
+    arguments: &HostArguments,
+    plan: &HostPlan<'_, R::Listener>,
+    start: HostStart<M>,
+    named: Option<Image>,
+    output: &mut O,
+    errors: &mut E,
+) -> Result<HartsEnd, HostFault>
+where
+    R::Stream: Send,
+    R::Listener: Send + Sync,
+    R::File: Send,
+    ensures shown { IfOk result (λ end. end ≢ ConsoleFault
+        → HasWorked (opening_of start.guest plan.now.id (length plan.now.peers.now)) end (O.contents output.old)
+        (O.contents output.new)) }
+    ensures unbegun { IfErr result (λ fault. O.contents output.new ≡ O.contents output.old) }
+{
+    let header = header_of(plan, start.numbers, named);
+    let ended = match begin_journal(rt, alloc, arguments.journal, &header) {
         Ok(log) => {
-            tell_addresses(&hosts, &operators, arguments.control, errors);
+            tell_addresses(plan.hosts, plan.operators, arguments.control, errors);
             work_at::<M, Option<JournalWriter<R::File>>, O, E, R>(
-                rt, alloc, &plan, start, log, output, errors,
+                rt, alloc, plan, start, log, output, errors,
             )
         }
-        Err(fault) => Err(fault),
+        Err(fault) => {
+            drop(start);
+            Err(fault)
+        }
     };
     if is_path(arguments.control) {
         let _left = fs::remove_file(rt, arguments.control);
@@ -175,48 +287,26 @@ where
     ended
 }
 
-/// The journal of a host, if it keeps one, with its first line. Fails with `NoJournal` if the file cannot be created or
-/// written.
-fn begin_journal<N: Drop, R: Files>(
-    rt: &R,
-    alloc: Global,
-    arguments: &HostArguments,
-    guest: Option<Image>,
-    plan: &HostPlan<'_, N>,
-    numbers: Numbers,
-) -> Result<Option<JournalWriter<R::File>>, HostFault>
-    ensures { IfOk result (λ log. IsEmpty (option_and_then (λ j. j) log)) }
-{
-    let Some(path) = arguments.journal else {
-        return Ok(None);
-    };
-    let header = Header {
+/// The first line of the journal of a host that begins with this guest, or without one.
+fn header_of<N: Drop>(plan: &HostPlan<'_, N>, numbers: Numbers, guest: Option<Image>) -> Header {
+    Header {
         hosts: plan.peers.count() as u8,
         host: plan.id,
         process: numbers.process,
         world: numbers.world,
         guest,
-    };
-    let Ok(file) = File::create(rt, path) else {
-        return Err(HostFault::NoJournal);
-    };
-    match JournalWriter::new(alloc, file, &header) {
-        Ok(log) => Ok(Some(log)),
-        Err(_) => Err(HostFault::NoJournal),
     }
 }
 
-/// The guest with which a host begins, if it begins with one, as a journal names it: by its harts and pages, and the file
-/// that has it.
-fn image_of<M: Memory + Drop>(
+/// The guest with which a host begins, if it begins with one, as a journal names it.
+fn named_guest<M: Memory + Drop>(
     arguments: &HostArguments,
     bytes: &[u8],
     guest: &Option<Debugged<M>>,
 ) -> Option<Image> {
     let asked = arguments.guest.as_ref()?;
     let guest = guest.as_ref()?;
-    let pages = guest.memory().len() / PAGE_SIZE;
-    Some(Image::of(asked.raw, guest.harts(), pages, bytes))
+    Some(image_of(asked.raw, bytes, guest))
 }
 
 /// The number of the host with this name among `count` hosts: 0 for A. `NoSuchHost` if there is none.
@@ -254,20 +344,20 @@ fn check_addresses<R: Net>(rt: &R, peers: &Peers, only_loopback: bool) -> Result
     Ok(())
 }
 
-/// Listens for other hosts, at the address of `--listen` if one was given, else at the one that the file of peers has
+/// Listens for other hosts, at this address of `--listen` if one was given, else at the one that the file of peers has
 /// for this host.
 fn listen_for_hosts<R: Net>(
     rt: &R,
-    arguments: &HostArguments,
-    peers: &Peers,
-    id: u8,
-    only_loopback: bool,
+    address: Option<&str>,
+    member: &Member,
 ) -> Result<R::Listener, HostFault> {
-    if let Some(address) = arguments.listen {
+    let only_loopback = member.only_loopback;
+    if let Some(address) = address {
         return listen_at(rt, Place::Listen, address.as_bytes(), only_loopback);
     }
-    match peers.address(usize::from(id)) {
-        Some(address) => listen_at(rt, Place::Peer(letter_of(id)), address, only_loopback),
+    let place = Place::Peer(letter_of(member.id));
+    match member.peers.address(usize::from(member.id)) {
+        Some(address) => listen_at(rt, place, address, only_loopback),
         None => Err(HostFault::NoSuchHost),
     }
 }

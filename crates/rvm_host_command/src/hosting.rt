@@ -7,21 +7,20 @@ ghost use Rattle.rvm_cell.specs.declared.host_harts.HartsEnd.TheVariants.{Consol
 
 use crate::door::Door;
 use crate::fault::HostFault;
+use crate::keeping::tell_kept;
 use crate::operators::Operators;
 use crate::process::Process;
 use crate::threads::work_beside;
 use crate::turns::Turns;
 use rvm_board::Debugged;
 use rvm_cell::{
-    HartsEnd, HartsPlan, HostCell, Hosting, InputQueue, News, Of, Opening, STREAM_VERSION, Station,
+    HartsEnd, HartsPlan, HostCell, Hosting, InputQueue, Of, Opening, STREAM_VERSION, Station,
     take_back,
 };
 use rvm_greeting::{Peers, Registry, Secret};
 use rvm_host::Host;
-use rvm_link::Routes;
 use rvm_mem::{MAX_PAGES, PagedMemory};
 use rvm_recorder::EventLog;
-use rvm_refusal::LinkFault;
 use std::alloc::{AllocError, Global};
 use std::io;
 use std::io::Write;
@@ -56,6 +55,8 @@ pub struct HostPlan<'a, N: Drop> {
     pub patience: Duration,
     /// The most turns in a second, if there is a limit.
     pub rate: Option<u32>,
+    /// The most megabytes that a move sends in a second while the guest runs, if there is a limit.
+    pub bandwidth: Option<u32>,
     /// Whether the process ends once its guest is halted here.
     pub until_halt: bool,
 }
@@ -243,13 +244,20 @@ where
     }
 }
 
-/// Reports that not all events were kept, if it is so. What cannot be written is lost.
-fn tell_kept<E: Write>(kept: Result<(), LinkFault>, errors: &mut E) {
-    if kept.is_err() {
-        let _untold = writeln!(
-            errors,
-            "the journal ended early: a line could not be written"
-        );
+/// How the worker of the harts runs in a process of its own. Not more than `most` turns are made, if there is such a limit.
+pub(crate) fn harts_plan(rate: Option<u32>, until_halt: bool, most: Option<u64>) -> HartsPlan
+    ensures { result.most ≡ most }
+{
+    HartsPlan {
+        slice: SLICE,
+        slice_in_move: SLICE_IN_MOVE,
+        rate,
+        until_halt,
+        most,
+        stop: AtomicBool::new(false),
+        moves: AtomicBool::new(false),
+        turns: AtomicU64::new(0),
+        halted: AtomicBool::new(false),
     }
 }
 
@@ -266,29 +274,13 @@ fn new_process<L: Hosting, R: Net>(
         doors.push(Door::new())?;
     }
     Ok(Process {
-        station: Station {
-            id: plan.id,
-            alloc,
-            routes: Routes::new(alloc, hosts, STREAM_VERSION)?,
-            news: News::new(),
-            console: Mutex::new(()),
-            questions: AtomicU64::new(0),
-            sent: AtomicU64::new(0),
-        },
-        harts: HartsPlan {
-            slice: SLICE,
-            slice_in_move: SLICE_IN_MOVE,
-            rate: plan.rate,
-            until_halt: plan.until_halt,
-            stop: AtomicBool::new(false),
-            moves: AtomicBool::new(false),
-            turns: AtomicU64::new(0),
-            halted: AtomicBool::new(false),
-        },
+        station: Station::new(alloc, plan.id, hosts)?,
+        harts: harts_plan(plan.rate, plan.until_halt, None),
         registry: Mutex::new(registry),
         secret,
         doors,
         hosts,
         patience: plan.patience,
+        bandwidth: plan.bandwidth,
     })
 }

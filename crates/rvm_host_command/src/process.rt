@@ -23,6 +23,8 @@ pub(crate) struct Process<L: Hosting, S: Read + Write + OpenStream + Drop> {
     pub(crate) hosts: u8,
     /// For how long nothing may be heard or done in a move before it is given up, while that may be.
     pub(crate) patience: Duration,
+    /// The most megabytes that a move sends in a second while the guest runs, if there is a limit.
+    pub(crate) bandwidth: Option<u32>,
 }
 
 impl<L: Hosting, S: Read + Write + OpenStream + Drop> Process<L, S> {

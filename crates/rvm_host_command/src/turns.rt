@@ -94,7 +94,7 @@ fn stay<L: Hosting, S: Read + Write + OpenStream + Drop, E: Write, R: Wait + Clo
     errors: &mut E,
 ) {
     match end {
-        HartsEnd::Stopped => {}
+        HartsEnd::Stopped | HartsEnd::Spent => {}
         HartsEnd::Halted(_) => thread::sleep(rt, Duration::from_millis(LINGER)),
         HartsEnd::ConsoleFault => {
             let _untold = writeln!(

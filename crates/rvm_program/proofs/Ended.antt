@@ -8,6 +8,7 @@ use Rattle.rvm_arguments.specs.declared.arguments.AsmArguments.{AsmArguments}
 use Rattle.rvm_arguments.specs.declared.arguments.DebugArguments.{DebugArguments}
 use Rattle.rvm_arguments.specs.declared.arguments.DisArguments.{DisArguments}
 use Rattle.rvm_arguments.specs.declared.arguments.HostArguments.{HostArguments}
+use Rattle.rvm_arguments.specs.declared.arguments.LiveArguments.{LiveArguments}
 use Rattle.rvm_arguments.specs.declared.arguments.MoveArguments.{MoveArguments}
 use Rattle.rvm_arguments.specs.declared.arguments.RunArguments.{RunArguments}
 use Rattle.rvm_arguments.specs.declared.arguments.ScriptArguments.{ScriptArguments}
@@ -16,10 +17,12 @@ use Rattle.rvm_command.specs.declared.refused.Refused.{Refused}
 use Rattle.rvm_command.specs.declared.run.Ended.{Ended}
 use Rattle.rvm_command.specs.Command.{end_text, image_of, refused_text}
 use Rattle.rvm_command.specs.Ends.{HasStatus, IsAsmEnd, IsDebugEnd, IsListEnd, IsRunEnd, RunHasStatus, run_status}
+use Rattle.rvm_cell.specs.declared.host_harts.HartsEnd.{HartsEnd}
 use Rattle.rvm_host_command.specs.Hosted.{IsHostedTo}
+use Rattle.rvm_host_command.specs.Live.{IsLiveEnd, IsLiveTo, live_status}
 use Rattle.rvm_move.specs.Ended.{IsMoved, IsNotMoved, IsUntold}
 use Rattle.rvm_move.specs.Orders.{IsAudited, IsNotAudited}
-use Rattle.rvm_program.specs.Ended.{AsmEnded, AuditEnded, DebugEnded, DisEnded, HasHosted, HasRunTo, HostEnded, IsNamedFile, MoveEnded, RunEnded, ScriptEnded, TellEnded, ToTell, Written, report_name, trace_name}
+use Rattle.rvm_program.specs.Ended.{AsmEnded, AuditEnded, DebugEnded, DisEnded, HasHosted, HasRunTo, HostEnded, IsNamedFile, LiveEnded, MoveEnded, RunEnded, ScriptEnded, TellEnded, ToTell, Written, report_name, trace_name, written}
 use Rattle.rvm_command.proofs.Inputs.{ends_so}
 use Rattle.rvm_files.specs.Files.{IsApart, IsCreated, IsFile, IsFirst, IsFirstInput, IsImage, IsInput, IsOpened, Named, symbols_name}
 use Rattle.rvm_command.specs.ScriptEnds.{IsScriptEnd}
@@ -409,3 +412,28 @@ host_untold files a output (Err fault) = (1, [], tt)
 pub tell_untold : {F : Type 0} (r : Result ℕ F) → OnErr r (ToTell (λ status errors. TellEnded status))
 tell_untold (Ok status) = tt
 tell_untold (Err fault) = (1, [], inr (inl refl))
+
+-- a live run was given its files
+pub live_ended : {F : Type 0} (files : Named) (a : LiveArguments) (image : List ℕ) (output : Written) (r : Result ℕ F)
+    → IsFile (files a.guest.image.now) image → IfOk r (λ s. IsLiveTo a image s output.before output.after)
+    → IfOk r (λ s. LiveEnded files a s output)
+live_ended files a image output (Err fault) image_is ended = tt
+live_ended files a image output (Ok s) image_is ended = inl (record { image = image; image_is = image_is; ended = ended })
+
+-- it is known what it wrote where it is not told how it ended
+pub live_untold : {F : Type 0} (files : Named) (a : LiveArguments) (image : List ℕ) (output : Written) (r : Result ℕ F)
+    → IsFile (files a.guest.image.now) image
+    → (end : Option HartsEnd) × IsLiveEnd a image end output.before output.after
+    → OnErr r (ToTell (λ s errors. LiveEnded files a s output))
+live_untold files a image output (Ok s) image_is ends = tt
+live_untold files a image output (Err fault) image_is ends = (
+  live_status a.status ends.0,
+  [],
+  inl (record { image = image; image_is = image_is; ended = (ends.0, refl, ends.1) }),
+)
+
+-- one whose files were refused wrote nothing
+pub live_unread : {F : Type 0} (files : Named) (a : LiveArguments) (before : Option (List ℕ)) (r : Result ℕ F)
+    → OnErr r (ToTell (λ s errors. LiveEnded files a s (written before before)))
+live_unread files a before (Ok s) = tt
+live_unread files a before (Err fault) = (1, [], inr (refl, refl))

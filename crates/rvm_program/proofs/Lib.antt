@@ -5,3 +5,4 @@ pub mod AuditedFiles
 pub mod Statuses
 mod OrdersEnded
 mod ReplayEnds
+mod TurnsEnds

@@ -9,6 +9,7 @@ use Rattle.rvm_arguments.specs.declared.arguments.ReplayArguments.{ReplayArgumen
 use Rattle.rvm_command.specs.Command.{refused_text}
 use Rattle.rvm_command.specs.Refusals.{refused}
 use Rattle.rvm_replay.specs.Replays.{HasAnswered, HasReplayStatus, HasSessionStatus, IsNoSession, IsUntold}
+use Rattle.rvm_replay.proofs.Replayed.{session_status}
 use Rattle.rvm_program.specs.Ended.{IsAnswerEnd, IsFileOrNone, IsGiven, IsJournal, IsNotBegun, IsReplayEnd, IsReplayed, IsSession, ReplayEnded, ToTell, Written, written}
 use Rattle.rvm_files.specs.Files.{IsFileRefusal, IsOpened, IsRefusedFile, Named, file_text}
 use Rattle.rvm_refusal.specs.declared.refusal.Refusal.{Refusal}
@@ -41,19 +42,6 @@ module _ {F : Type 0} (r : Result ℕ F) (Ends : ℕ → Written → Type 0) (fi
     of (Ok status) = tt
     of (Err fault) = (1, refused_text (refused why) ++ codes "\n", inr (refl, inr (why, reason, refl)))
 
--- by its status, how a session was answered
-session_status : (s : ℕ) (name : List ℕ) (most : Option ℕ) (journal image : List ℕ) (session before after : Option (List ℕ))
-    (errors : Written) → (s ≡ 0) ⊎ (s ≡ 1) → (s ≡ 0 → HasAnswered most journal image session before after)
-    → (s ≡ 0 → errors.after ≡ errors.before)
-    → (s ≡ 1 → IsNoSession name most journal image session before after errors.before errors.after)
-    → HasSessionStatus s name most journal image session before after errors.before errors.after
-session_status s name most journal image session before after errors status answered silent refused_is = elim status [
-  | inl none ↦ subst (λ n. HasSessionStatus n name most journal image session before after errors.before errors.after)
-      (sym none) (answered none, silent none)
-  | inr one ↦ subst (λ n. HasSessionStatus n name most journal image session before after errors.before errors.after)
-      (sym one) (refused_is one)
-]
-
 -- a session was answered to a buffer that holds what the output does
 module _ (a : ReplayArguments) (read_journal journal read_image image : List ℕ) (session buffer before after : Option (List ℕ))
     (journal_is : read_journal ≡ journal) (image_is : read_image ≡ image) (empty : buffer ≡ before) where
@@ -77,8 +65,8 @@ module _ (a : ReplayArguments) (read_journal journal read_image image : List ℕ
       errors.before errors.after)
       → IfOk r (λ s. IsAnswerEnd s files a journal image session before errors)
   answer_end (Ok s) errors files status answered silent refused_is =
-      inl (session_end s errors (session_status s a.journal.now a.until read_journal read_image session buffer after errors
-      status answered silent refused_is))
+      inl (session_end s errors (session_status s a.journal.now a.until read_journal read_image session buffer after
+      errors.before errors.after status answered silent refused_is))
   answer_end (Err e) errors files status answered silent refused_is = tt
 
   pub answer_untold : {F : Type 0} (r : Result ℕ F) (files : Named)

@@ -4,14 +4,16 @@ use Rattle.std.specs.Borrow.{Bor}
 use Rattle.std.specs.Result.{IfErr, IfOk}
 use Rattle.std.specs.Prelude.{OnErr}
 use Rattle.rvm_arguments.specs.declared.arguments.Arguments.{Arguments}
-use Rattle.rvm_arguments.specs.declared.arguments.Arguments.TheVariants.{Run, Orders, Asm, Dis, Debug, Script, Move, Audit, Host, Tell, Replay, AuditJournals}
-use Rattle.rvm_program.specs.Ended.{AreShown, HasEnded, HasRunTo, HostEnded, IsReplayEnd, IsUnbegun, IsUntold, JournalsEnded, MoveHasStatus, ReplayEnded, TellEnded, Written}
+use Rattle.rvm_arguments.specs.declared.arguments.Arguments.TheVariants.{Run, Live, Orders, Asm, Dis, Debug, Script, Move, Audit, Host, Tell, Replay, ReplayTurns, AuditJournals}
+use Rattle.rvm_program.specs.Ended.{AreShown, HasEnded, HasRunTo, HostEnded, IsReplayEnd, IsUnbegun, IsUntold, JournalsEnded, LiveEnded, MoveHasStatus, ReplayEnded, TellEnded, TurnsEnded, Written}
 use Rattle.rvm_program.specs.Performed.{HasFailed, IsJudged, IsPassingOn, MayBeOpen, TellsMore}
 use Rattle.rvm_arguments.specs.declared.arguments.AuditJournalsArguments.{AuditJournalsArguments}
 use Rattle.rvm_arguments.specs.declared.arguments.HostArguments.{HostArguments}
+use Rattle.rvm_arguments.specs.declared.arguments.LiveArguments.{LiveArguments}
 use Rattle.rvm_arguments.specs.declared.arguments.MoveArguments.{MoveArguments}
 use Rattle.rvm_arguments.specs.declared.arguments.OrdersArguments.{OrdersArguments}
 use Rattle.rvm_arguments.specs.declared.arguments.ReplayArguments.{ReplayArguments}
+use Rattle.rvm_arguments.specs.declared.arguments.ReplayTurnsArguments.{ReplayTurnsArguments}
 use Rattle.rvm_arguments.specs.declared.arguments.RunArguments.{RunArguments}
 use Rattle.rvm_arguments.specs.declared.arguments.StatusOf.{StatusOf}
 use Rattle.rvm_arguments.specs.declared.arguments.StatusOf.TheVariants.{Command, Verdict, Guest}
@@ -24,9 +26,13 @@ use Rattle.rvm_command.specs.Seeds.{IsOrdersEnd, OrdersHaveStatus}
 use Rattle.rvm_command.specs.declared.orders_command.FailedRun.{FailedRun}
 use Rattle.rvm_command.specs.Ends.{RunHasStatus, run_status}
 use Rattle.rvm_command.specs.Refusals.{refused}
+use Rattle.rvm_cell.specs.declared.host_harts.HartsEnd.{HartsEnd}
+use Rattle.rvm_cell.specs.declared.host_harts.HartsEnd.TheVariants.{ConsoleFault, Halted, Spent, Stopped}
+use Rattle.rvm_host_command.specs.Live.{live_status}
 use Rattle.rvm_move.specs.Ended.{ended_of, status_asked}
 use Rattle.rvm_files.specs.Files.{IsUnread, Named}
 use Rattle.rvm_refusal.specs.declared.refusal.Refusal.{Refusal}
+use Rattle.rvm_replay.specs.Turns.{HasTurnStatus}
 use Rattle.rvm_replay.specs.declared.file.JournalFile.{JournalFile}
 
 -- what a command was asked for that has ended with this status, if it is more than 1
@@ -43,22 +49,6 @@ little a s below = record {
   judged = λ more. absurd (omega (arith, below, more));
 }
 
--- a run that was asked for a verdict has any status
-judged_run : (a : RunArguments) (s : ℕ) → TellsMore a.status → (s ≡ 2 → ⊥) → IsAskedFor (Run a) s
-judged_run a s more other = record {
-  passing = λ two. absurd (other two);
-  lost = λ three. inr more;
-  judged = λ above. more;
-}
-
--- and one that was asked for the status of its guest
-passing_run : (a : RunArguments) (s : ℕ) → TellsMore a.status → a.status ≡ Guest → IsAskedFor (Run a) s
-passing_run a s more passing = record {
-  passing = λ two. passing;
-  lost = λ three. inr more;
-  judged = λ above. more;
-}
-
 -- a verdict is 0, 3, 4 or 5
 no_verdict : (e : Ended) → run_status Verdict e ≡ 2 → ⊥
 no_verdict (HaltedWith zero) is = let it : 0 ≡ 2 = is in absurd (omega (arith, it))
@@ -66,19 +56,37 @@ no_verdict (HaltedWith (suc n)) is = let it : 3 ≡ 2 = is in absurd (omega (ari
 no_verdict StepsSpent is = let it : 4 ≡ 2 = is in absurd (omega (arith, it))
 no_verdict (Fault f) is = let it : 5 ≡ 2 = is in absurd (omega (arith, it))
 
--- a run has the status that was asked for
-run_asked : (a : RunArguments) (asked : StatusOf) (s : ℕ) (e : Ended) → a.status ≡ asked → s ≡ run_status asked e
-    → IsAskedFor (Run a) s
-run_asked a Command s e same is = let it : s ≡ 0 = is in little (Run a) s (omega (arith, it))
-run_asked a Verdict s e same is =
-    judged_run a s (subst TellsMore (sym same) tt) (λ two. no_verdict e (sym is ∙ two))
-run_asked a Guest s e same is = passing_run a s (subst TellsMore (sym same) tt) same
+-- a run, or a live run, that was asked for such a status
+module _ (a : Arguments) (asked : StatusOf) (judges : TellsMore asked → IsJudged a) (passes : asked ≡ Guest → IsPassingOn a) where
+  -- has the status that was asked for
+  run_asked : (it : StatusOf) (s : ℕ) (e : Ended) → asked ≡ it → s ≡ run_status it e → IsAskedFor a s
+  run_asked Command s e same is = let none : s ≡ 0 = is in little a s (omega (arith, none))
+  run_asked Verdict s e same is =
+      let more = judges (subst TellsMore (sym same) tt) in
+      record { passing = λ two. absurd (no_verdict e (sym is ∙ two)); lost = λ three. inr more; judged = λ above. more }
+  run_asked Guest s e same is =
+      let more = judges (subst TellsMore (sym same) tt) in
+      record { passing = λ two. passes same; lost = λ three. inr more; judged = λ above. more }
 
--- and so has one that was refused
+-- a run has the status that was asked for, and so has one that was refused
 run_ended : (a : RunArguments) (s : ℕ) (End : Result Ended Refused → Type 0) (before after : Option (List ℕ))
     → RunHasStatus a.status s End before after → IsAskedFor (Run a) s
-run_ended a s End before after (inl e) = run_asked a a.status s e.0 refl e.1
+run_ended a s End before after (inl e) = run_asked (Run a) a.status (λ more. more) (λ is. is) a.status s e.0 refl e.1
 run_ended a s End before after (inr r) = little (Run a) s (omega (arith, r.1))
+
+-- so has a live run
+live_asked : (a : LiveArguments) (s : ℕ) (end : Option HartsEnd) → s ≡ live_status a.status end → IsAskedFor (Live a) s
+live_asked a s None is = let one : s ≡ 1 = is in little (Live a) s (omega (arith, one))
+live_asked a s (Some Stopped) is = let one : s ≡ 1 = is in little (Live a) s (omega (arith, one))
+live_asked a s (Some ConsoleFault) is = let one : s ≡ 1 = is in little (Live a) s (omega (arith, one))
+live_asked a s (Some (Halted n)) is =
+    run_asked (Live a) a.status (λ more. more) (λ same. same) a.status s (HaltedWith n) refl is
+live_asked a s (Some Spent) is =
+    run_asked (Live a) a.status (λ more. more) (λ same. same) a.status s StepsSpent refl is
+
+live_ended : (files : Named) (a : LiveArguments) (s : ℕ) (output : Written) → LiveEnded files a s output → IsAskedFor (Live a) s
+live_ended files a s output (inl has) = live_asked a s has.ended.0 has.ended.1
+live_ended files a s output (inr unbegun) = little (Live a) s (omega (arith, unbegun.0))
 
 -- runs by several seeds have a verdict, or were refused
 orders_ended : (a : OrdersArguments) (s : ℕ) (End : Result (Option FailedRun) Refused → Type 0) (before after : Option (List ℕ))
@@ -152,20 +160,37 @@ shown created a (Some name) zero journals image output errors has = absurd has.a
 shown created a (Some name) (suc zero) journals image output errors has = refl
 shown created a (Some name) (suc (suc n)) journals image output errors has = absurd has.audited.1
 
-undecided : (a : AuditJournalsArguments) (n : ℕ) → n ≡ 1 → IsAskedFor (AuditJournals a) (suc (suc n))
-undecided a zero one = absurd (omega (arith, one))
-undecided a (suc zero) one = record {
+-- a command that may be left open may have the status 3
+undecided : (a : Arguments) (n : ℕ) → MayBeOpen a → n ≡ 1 → IsAskedFor a (suc (suc n))
+undecided a zero may one = absurd (omega (arith, one))
+undecided a (suc zero) may one = record {
   passing = λ two. (let it : 3 ≡ 2 = two in absurd (omega (arith, it)));
-  lost = λ three. inl tt;
+  lost = λ three. inl may;
   judged = λ above. (let it : 3 < 3 = above in absurd (omega (arith, it)));
 }
-undecided a (suc (suc n)) one = let it : suc (suc n) ≡ 1 = one in absurd (omega (arith, it))
+undecided a (suc (suc n)) may one = let it : suc (suc n) ≡ 1 = one in absurd (omega (arith, it))
 
 audited : (files created : Named) (a : AuditJournalsArguments) (n : ℕ) (output : Option (List ℕ)) (errors : Written)
     → JournalsEnded files created a (suc (suc n)) output errors → IsAskedFor (AuditJournals a) (suc (suc n))
 audited files created a n output errors (inl has) =
-    undecided a n (shown created a a.chart n has.journals has.image output errors has.shown)
+    undecided (AuditJournals a) n tt (shown created a a.chart n has.journals has.image output errors has.shown)
 audited files created a n output errors (inr u) = let it : suc (suc n) ≡ 1 = u.0 in absurd (omega (arith, it))
+
+-- so has a replay up to a turn
+turn_answered : (a : ReplayTurnsArguments) (n : ℕ) (journals : List JournalFile) (image : List ℕ)
+    (session output told errors errors' : Option (List ℕ))
+    → HasTurnStatus (suc (suc n)) journals image a.turns session output told errors errors' → n ≡ 1
+turn_answered a n journals image session output told errors errors' (inl has) = absurd has.ended
+turn_answered a zero journals image session output told errors errors' (inr none) = absurd none
+turn_answered a (suc zero) journals image session output told errors errors' (inr may) = refl
+turn_answered a (suc (suc n)) journals image session output told errors errors' (inr none) = absurd none
+
+turns_ended : (files : Named) (a : ReplayTurnsArguments) (n : ℕ) (input output : Option (List ℕ)) (errors : Written)
+    → TurnsEnded files a (suc (suc n)) input output errors → IsAskedFor (ReplayTurns a) (suc (suc n))
+turns_ended files a n input output errors (inl has) =
+    undecided (ReplayTurns a) n tt (turn_answered a n has.journals has.image has.ended.session output has.ended.answered.0
+    errors.before errors.after has.ended.answered.1)
+turns_ended files a n input output errors (inr u) = let it : suc (suc n) ≡ 1 = u.0 in absurd (omega (arith, it))
 
 -- a command that ended with more than 1 was asked for such a status
 more : (files created : Named) (a : Arguments) (n : ℕ) (script : Option (List ℕ)) (output errors : Written)
@@ -173,6 +198,7 @@ more : (files created : Named) (a : Arguments) (n : ℕ) (script : Option (List 
 more files created (Run a) n script output errors e =
     run_ended a (suc (suc n)) (λ end. HasRunTo created a e.image e.input e.symbols end output) errors.before errors.after
     e.ended
+more files created (Live a) n script output errors e = live_ended files a (suc (suc n)) output e
 more files created (Orders a) n script output errors e =
     orders_ended a (suc (suc n)) (λ end. IsOrdersEnd a e.image e.input end output.before output.after) errors.before errors.after
     e.ended
@@ -185,6 +211,7 @@ more files created (Audit a) n script output errors e = absurd e.ended
 more files created (Host a) n script output errors e = hosted files a n output e
 more files created (Tell a) n script output errors e = told a (suc (suc n)) e
 more files created (Replay a) n script output errors e = absurd (replayed files a n script output errors e)
+more files created (ReplayTurns a) n script output errors e = turns_ended files a n script output.before errors e
 more files created (AuditJournals a) n script output errors e = audited files created a n output.before errors e
 
 -- a command that has ended was asked for its status

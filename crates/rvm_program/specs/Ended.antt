@@ -4,14 +4,16 @@ use Rattle.std.specs.Io.KnownBytes.{Appends}
 use Rattle.std.specs.Str.{bytes_eq}
 use Rattle.std.specs.Prelude.{◌≡◌, ◌⊎◌, ⊤, codes, ℕ, zero, suc, Bool, true, false, List, [], ◌∷◌, ◌++◌, Option, None, Some, IfSome, Result, option_map}
 use Rattle.rvm_arguments.specs.declared.arguments.Arguments.{Arguments}
-use Rattle.rvm_arguments.specs.declared.arguments.Arguments.TheVariants.{Run, Orders, Asm, Dis, Debug, Script, Move, Audit, Host, Tell, Replay, AuditJournals}
+use Rattle.rvm_arguments.specs.declared.arguments.Arguments.TheVariants.{Run, Live, Orders, Asm, Dis, Debug, Script, Move, Audit, Host, Tell, Replay, ReplayTurns, AuditJournals}
 use Rattle.rvm_arguments.specs.declared.arguments.AsmArguments.{AsmArguments}
 use Rattle.rvm_arguments.specs.declared.arguments.AuditJournalsArguments.{AuditJournalsArguments}
 use Rattle.rvm_arguments.specs.declared.arguments.DebugArguments.{DebugArguments}
 use Rattle.rvm_arguments.specs.declared.arguments.DisArguments.{DisArguments}
 use Rattle.rvm_arguments.specs.declared.arguments.HostArguments.{HostArguments}
+use Rattle.rvm_arguments.specs.declared.arguments.LiveArguments.{LiveArguments}
 use Rattle.rvm_arguments.specs.declared.arguments.MoveArguments.{MoveArguments}
 use Rattle.rvm_arguments.specs.declared.arguments.ReplayArguments.{ReplayArguments}
+use Rattle.rvm_arguments.specs.declared.arguments.ReplayTurnsArguments.{ReplayTurnsArguments}
 use Rattle.rvm_arguments.specs.declared.arguments.ReportArguments.{ReportArguments}
 use Rattle.rvm_arguments.specs.declared.arguments.OrdersArguments.{OrdersArguments}
 use Rattle.rvm_arguments.specs.declared.arguments.RunArguments.{RunArguments}
@@ -25,7 +27,9 @@ use Rattle.rvm_command.specs.Seeds.{IsOrdersEnd, OrdersHaveStatus}
 use Rattle.rvm_command.specs.Refusals.{IsTold, refused}
 use Rattle.rvm_replay.specs.Replays.{HasReplayStatus, HasSessionStatus}
 use Rattle.rvm_host_command.specs.Hosted.{IsHostedTo}
+use Rattle.rvm_host_command.specs.Live.{IsLiveTo}
 use Rattle.rvm_replay.specs.Findings.{HasAuditStatus}
+use Rattle.rvm_replay.specs.Turns.{HasTurnStatus}
 use Rattle.rvm_journal.specs.Whole.{AreWholeLines}
 use Rattle.rvm_replay.specs.declared.audit.AuditText.{AuditText}
 use Rattle.rvm_replay.specs.declared.audit.AuditText.TheVariants.{Chart, Order, Summary}
@@ -79,6 +83,16 @@ pub record RunEnded (files created : Named) (a : RunArguments) (status : ℕ) (o
   pub symbols_are : IsInput files (symbols_name a.report) symbols
   pub ended : RunHasStatus a.status status (λ end. HasRunTo created a image input symbols end output)
       errors.before errors.after
+
+-- a live run was given the image, or the saved guest, that it names, and has this status
+pub record HasRunLive (files : Named) (a : LiveArguments) (status : ℕ) (output : Written) : Type 0 where
+  pub image : List ℕ
+  pub image_is : IsFile (files a.guest.image.now) image
+  pub ended : IsLiveTo a image status output.before output.after
+
+-- a live run was given its files, or did not begin, and wrote nothing to the output
+abbrev pub LiveEnded : (files : Named) → LiveArguments → (status : ℕ) → (output : Written) → Type 0
+LiveEnded files a status output = HasRunLive files a status output ⊎ ((status ≡ 1) × (output.after ≡ output.before))
 
 -- `run --orders` was given the image that it names, and of the input, if it names some, at most one byte for each turn
 pub record OrdersEnded (files : Named) (a : OrdersArguments) (status : ℕ) (output errors : Written) : Type 0 where
@@ -322,10 +336,51 @@ abbrev pub JournalsEnded : (files created : Named) → AuditJournalsArguments �
 JournalsEnded files created a status output errors =
     HasAudited files created a status output errors ⊎ ((status ≡ 1) × IsNotBegun files errors)
 
+-- a session was answered for the guest of journals as it was after a turn, or not, and wrote to a buffer in front of the output
+abbrev pub IsTurnsAnswer : ReplayTurnsArguments → (status : ℕ) → List JournalFile → (image : List ℕ)
+    → (session output : Option (List ℕ)) → (errors : Written) → Type 0
+IsTurnsAnswer a status journals image session output errors =
+    (told : Option (List ℕ)) × HasTurnStatus status journals image a.turns session output told errors.before errors.after
+
+-- such a session, or it did not begin
+abbrev pub IsTurnsAnswerEnd : (status : ℕ) → (files : Named) → ReplayTurnsArguments → List JournalFile → (image : List ℕ)
+    → (session output : Option (List ℕ)) → (errors : Written) → Type 0
+IsTurnsAnswerEnd status files a journals image session output errors =
+    IsTurnsAnswer a status journals image session output errors ⊎ ((status ≡ 1) × IsNotBegun files errors)
+
+-- the session that is named was answered so
+pub record IsTurnsEnd (files : Named) (a : ReplayTurnsArguments) (status : ℕ) (journals : List JournalFile) (image : List ℕ)
+    (input output : Option (List ℕ)) (errors : Written) : Type 0 where
+  pub session : Option (List ℕ)
+  pub session_is : IsSession files a.script.now input session
+  pub answered : IsTurnsAnswer a status journals image session output errors
+
+-- what was read of the files was replayed up to a turn, or the replay did not begin
+abbrev pub AreTurnsMade : (files : Named) → ReplayTurnsArguments → (status : ℕ) → List JournalFile → (image : List ℕ)
+    → (input output : Option (List ℕ)) → (errors : Written) → Type 0
+AreTurnsMade files a status journals image input output errors =
+    IsTurnsEnd files a status journals image input output errors ⊎ ((status ≡ 1) × IsNotBegun files errors)
+
+-- `replay --turns` was given the files that it names
+pub record HaveMadeTurns (files : Named) (a : ReplayTurnsArguments) (status : ℕ) (input output : Option (List ℕ))
+    (errors : Written) : Type 0 where
+  pub journals : List JournalFile
+  pub image : List ℕ
+  pub journals_are : AreJournals files a.journals.items journals
+  pub image_is : IsFile (files a.image.now) image
+  pub ended : IsTurnsEnd files a status journals image input output errors
+
+-- `replay --turns` was given its files, or did not begin
+abbrev pub TurnsEnded : (files : Named) → ReplayTurnsArguments → (status : ℕ) → (input output : Option (List ℕ))
+    → (errors : Written) → Type 0
+TurnsEnded files a status input output errors =
+    HaveMadeTurns files a status input output errors ⊎ ((status ≡ 1) × IsNotBegun files errors)
+
 -- what a command line asks for ended with this status
 abbrev pub HasEnded : (files created : Named) → Arguments → (status : ℕ) → (script : Option (List ℕ))
     → (output errors : Written) → Type 0
 HasEnded files created (Run a) status script output errors = RunEnded files created a status output errors
+HasEnded files created (Live a) status script output errors = LiveEnded files a status output
 HasEnded files created (Orders a) status script output errors = OrdersEnded files a status output errors
 HasEnded files created (Asm a) status script output errors = AsmEnded files created a status errors
 HasEnded files created (Dis a) status script output errors = DisEnded files a status output.before errors
@@ -336,6 +391,7 @@ HasEnded files created (Audit a) status script output errors = AuditEnded files 
 HasEnded files created (Host a) status script output errors = HostEnded files a status output
 HasEnded files created (Tell a) status script output errors = TellEnded status
 HasEnded files created (Replay a) status script output errors = ReplayEnded files a status script output errors
+HasEnded files created (ReplayTurns a) status script output errors = TurnsEnded files a status script output.before errors
 HasEnded files created (AuditJournals a) status script output errors = JournalsEnded files created a status output.before errors
 
 -- a command did not begin, since a file could not be opened or read, memory ran out, or a file has more bytes than it

@@ -6,7 +6,7 @@ use Rattle.clap.specs.Simple.{subcommand_of}
 use Rattle.clap.specs.Walk.{Text}
 use Rattle.clap.specs.declared.error.kind.ErrorKind.TheVariants as kind
 use Rattle.rvm_arguments.specs.declared.arguments.Arguments.{Arguments}
-use Rattle.rvm_arguments.specs.declared.arguments.Arguments.TheVariants.{AuditJournals, Host, Move, Orders, Run, Tell}
+use Rattle.rvm_arguments.specs.declared.arguments.Arguments.TheVariants.{AuditJournals, Host, Live, Move, Orders, ReplayTurns, Run, Tell}
 use Rattle.rvm_arguments.specs.declared.arguments.CommandLine.{CommandLine}
 use Rattle.rvm_arguments.specs.declared.arguments.StatusOf.{StatusOf}
 use Rattle.rvm_arguments.specs.declared.arguments.StatusOf.TheVariants.{Command, Verdict, Guest}
@@ -42,10 +42,11 @@ abbrev pub IsRefused : (files created : Named) → (words : List Text) → (scri
 IsRefused files created words script output errors =
     AskFor words (λ a. HasFailed files created a script output errors)
 
--- a command may be left open, with the status 3: a host is told something, and an answer may be lost; or journals are
--- audited, and what was cut off from them may decide
+-- a command may be left open, with the status 3: a host is told something, and an answer may be lost; or an order of journals
+-- is looked for, and what was cut off from them may decide
 abbrev pub MayBeOpen : Arguments → Type 0
 MayBeOpen (Tell a) = ⊤
+MayBeOpen (ReplayTurns a) = ⊤
 MayBeOpen (AuditJournals a) = ⊤
 MayBeOpen other = ⊥
 
@@ -62,6 +63,7 @@ TellsMore Guest = ⊤
 -- a run, several, a move or a host have a status that tells how they, or its guest there, ended
 abbrev pub IsJudged : Arguments → Type 0
 IsJudged (Run a) = TellsMore a.status
+IsJudged (Live a) = TellsMore a.status
 IsJudged (Orders a) = ⊤
 IsJudged (Move a) = a.verdict ≡ true
 IsJudged (Host a) = a.verdict ≡ true
@@ -74,6 +76,7 @@ AreJudged words = AskFor words (λ a. IsJudged a)
 -- a run has the status of its guest
 abbrev pub IsPassingOn : Arguments → Type 0
 IsPassingOn (Run a) = a.status ≡ Guest
+IsPassingOn (Live a) = a.status ≡ Guest
 IsPassingOn other = ⊥
 
 -- words ask for a run with the status of its guest

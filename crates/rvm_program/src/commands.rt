@@ -3,7 +3,7 @@
 //! file has more bytes than it may have, or if memory runs out; all other refusals are reported by the command over
 //! values.
 
-ghost use Rattle.std.specs.Prelude.{◌≡◌, ◌≢◌, ◌⊎◌, None, Result, IfErr, IfOk, OnErr, true};
+ghost use Rattle.std.specs.Prelude.{◌≡◌, ◌≢◌, ◌⊎◌, None, Option, Result, IfErr, IfOk, OnErr, true};
 ghost use Rattle.either.specs.Either.{either};
 ghost use Rattle.rvm_arguments.specs.declared.arguments.Arguments.TheVariants as asks;
 ghost use Rattle.rvm_refusal.specs.declared.refusal.Refusal.TheVariants as refusal;
@@ -12,15 +12,18 @@ ghost use Rattle.std.specs.Io.KnownBytes.{Appends};
 ghost use Rattle.rvm_command.specs.declared.refused.Refused.{Refused};
 ghost use Rattle.rvm_command.specs.declared.run.Ended.{Ended};
 ghost use Rattle.rvm_command.specs.Ends.{RunHasStatus};
+ghost use Rattle.rvm_cell.specs.declared.host_harts.HartsEnd.{HartsEnd};
 ghost use Rattle.rvm_host_command.specs.Hosted.{IsHostedTo};
-ghost use Rattle.rvm_program.specs.Ended.{AsmEnded, AuditEnded, DebugEnded, DisEnded, HasRunTo, HostEnded, IsNamedFile, MoveEnded, RunEnded, ScriptEnded, TellEnded, ToTell, report_name, trace_name, written};
+ghost use Rattle.rvm_host_command.specs.Live.{IsLiveEnd, IsLiveTo};
+ghost use Rattle.rvm_program.specs.Ended.{AsmEnded, AuditEnded, DebugEnded, DisEnded, HasRunTo, HostEnded, IsNamedFile, LiveEnded, MoveEnded, RunEnded, ScriptEnded, TellEnded, ToTell, report_name, trace_name, written};
 ghost use Rattle.rvm_files.specs.Files.{IsFile, IsFileRefusal, IsFirst, IsFirstInput, IsImage, IsInput, IsLong, IsLongInput, IsLongSymbols, IsRefusedFile, IsUnread, file_text, max_size, symbols_name};
 
 use crate::system::System;
 use either::Either;
 use rvm_arguments::{
-    AsmArguments, DebugArguments, DisArguments, GuestArguments, HostArguments, MoveArguments,
-    Report, ReportArguments, RunArguments, ScriptArguments, TellArguments, TraceArguments,
+    AsmArguments, DebugArguments, DisArguments, GuestArguments, HostArguments, LiveArguments,
+    MoveArguments, Report, ReportArguments, RunArguments, ScriptArguments, TellArguments,
+    TraceArguments,
 };
 use rvm_cell::{InputQueue, read_input as read_console_input};
 use rvm_command::asm_command::asm_command;
@@ -33,6 +36,7 @@ use rvm_files::{
     read_image, read_whole, refusal_of,
 };
 use rvm_host_command::host_command::{HostBytes, host_command};
+use rvm_host_command::live_command::live_command;
 use rvm_host_command::tell_command::{LOST, connect_to, tell_command};
 use rvm_mem::PagedMemory;
 use rvm_move::audit_command::audit_command;
@@ -484,35 +488,104 @@ fn read_host<'a, Rt: System + Threads + Wait + 'static, F: NamedFiles>(
         peers: read_told(files, rt.alloc(), arguments.peers)?,
         image,
         secret,
-        input: host_input(rt, files, arguments.input)?,
+        input: console_input(rt, files, arguments.input)?,
     };
-    keep_host_files(files, rt.alloc(), arguments.journal, &read)?;
+    for bytes in [
+        read.peers.as_slice(),
+        read.image.as_slice(),
+        read.secret.as_deref().unwrap_or(&[]),
+    ] {
+        keep_from_journal(files, rt.alloc(), arguments.journal, bytes)?;
+    }
     Ok(read)
 }
 
-/// Refuses the file of a host's journal, if it keeps one and that may be a file that was read. Fails with its name and the
-/// refusal.
-fn keep_host_files<'a, F: NamedFiles>(
+/// Refuses the file of a journal, if one is kept and that may be a file with these bytes, which were read. Fails with its
+/// name and the refusal.
+fn keep_from_journal<'a, F: NamedFiles>(
     files: &F,
     alloc: Global,
     journal: Option<&'a str>,
-    read: &HostFiles,
+    bytes: &[u8],
 ) -> Result<(), (&'a str, Refusal)> {
     let Some(path) = journal else {
         return Ok(());
     };
-    let secret = read.secret.as_deref().unwrap_or(&[]);
-    for bytes in [read.peers.as_slice(), read.image.as_slice(), secret] {
-        if let Err(why) = keep_read(files, alloc, path, bytes) {
-            return Err((path, why));
-        }
+    match keep_read(files, alloc, path, bytes) {
+        Ok(()) => Ok(()),
+        Err(why) => Err((path, why)),
     }
-    Ok(())
+}
+
+/// Reads the files of a live run, and runs its guest. If a file is refused, writes its name and the refusal to `errors`, and
+/// returns the status 1.
+#[tactic(auto, using(crate::proofs::Ended::live_ended))]
+pub(crate) fn live<
+    M: PagedMemory + Drop,
+    Rt: System + Threads + Wait + 'static,
+    F: NamedFiles,
+    O: Write,
+    E: Write,
+>(rt: &Rt, files: &F, arguments: &LiveArguments, output: &mut O, errors: &mut E) -> Told
+    ensures ended { IfOk result (λ status. LiveEnded (F.bytes_of files.now) arguments.now status
+        (written (O.contents output.old) (O.contents output.new))) }
+    ensures untold { OnErr result (ToTell (λ status errors. LiveEnded (F.bytes_of files.now) arguments.now status
+        (written (O.contents output.old) (O.contents output.new)))) }
+{
+    match read_live(rt, files, arguments) {
+        Ok(read) => run_live::<M, Rt, O, E>(rt, arguments, &read, output, errors),
+        Err((path, why)) => tell_file(path, why, errors),
+    }
+}
+
+/// Runs the guest of a live run whose files are read.
+fn run_live<M: PagedMemory + Drop, Rt: System + Wait, O: Write, E: Write>(
+    rt: &Rt,
+    arguments: &LiveArguments,
+    read: &LiveFiles,
+    output: &mut O,
+    errors: &mut E,
+) -> Told
+    ensures status { IfOk result (λ status. IsLiveTo arguments.now read.now.image.items status
+        (O.contents output.old) (O.contents output.new)) }
+    ensures output { (end : Option HartsEnd) × IsLiveEnd arguments.now read.now.image.items end
+        (O.contents output.old) (O.contents output.new) }
+{
+    live_command::<M, O, E, Rt>(
+        rt,
+        rt.alloc(),
+        arguments,
+        read.image.as_slice(),
+        &read.input,
+        output,
+        errors,
+    )
+}
+
+/// What the files of a live run hold.
+#[derive(Drop)]
+struct LiveFiles {
+    image: Vec<u8>,
+    input: Arc<InputQueue>,
+}
+
+/// Reads the files of a live run. Fails with the name of the first file that is refused, and the refusal.
+fn read_live<'a, Rt: System + Threads + Wait + 'static, F: NamedFiles>(
+    rt: &Rt,
+    files: &F,
+    arguments: &LiveArguments<'a>,
+) -> Result<LiveFiles, (&'a str, Refusal)>
+    ensures image { IfOk result (λ r. IsFile (F.bytes_of files.now arguments.now.guest.image.now) r.image.items) }
+{
+    let image = read_told_image(files, rt.alloc(), &arguments.guest)?;
+    keep_from_journal(files, rt.alloc(), arguments.journal, &image)?;
+    let input = console_input(rt, files, arguments.input)?;
+    Ok(LiveFiles { image, input })
 }
 
 /// The input of the guest's console: the bytes of a file, or those of standard input as they come, or none if `input`
 /// is `None`.
-fn host_input<'a, Rt: System + Threads + Wait + 'static, F: NamedFiles>(
+fn console_input<'a, Rt: System + Threads + Wait + 'static, F: NamedFiles>(
     rt: &Rt,
     files: &F,
     input: Option<&'a str>,

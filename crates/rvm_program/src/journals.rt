@@ -3,11 +3,11 @@
 
 ghost use Rattle.std.specs.Prelude.{◌≡◌, [], ◌∷◌, ◌++◌, IfErr, IfOk, OnErr, OnOk};
 ghost use Rattle.rvm_replay.specs.Replays.{HasReplayStatus};
-ghost use Rattle.rvm_program.specs.Ended.{AreJournals, IsAnswerEnd, IsAuditEnd, IsDrawnEnd, IsFileOrNone, IsJournal, IsOneMore, IsReplayed, IsShownEnd, JournalsEnded, ReplayEnded, ToTell, text_of, written};
+ghost use Rattle.rvm_program.specs.Ended.{AreJournals, AreTurnsMade, IsAnswerEnd, IsAuditEnd, IsDrawnEnd, IsFileOrNone, IsJournal, IsOneMore, IsReplayed, IsShownEnd, IsTurnsAnswerEnd, JournalsEnded, ReplayEnded, ToTell, TurnsEnded, text_of, written};
 ghost use Rattle.rvm_files.specs.Files.{IsCreated, IsFile, IsFileRefusal, IsRefusedFile, Named};
 
 use crate::commands::{STANDARD_INPUT, Told, buffered, read_told, tell_file};
-use rvm_arguments::{AuditJournalsArguments, ReplayArguments};
+use rvm_arguments::{AuditJournalsArguments, ReplayArguments, ReplayTurnsArguments};
 use rvm_command::refused::{Refused, tell};
 use rvm_files::{MAX_JOURNAL_SIZE, NamedFiles, keep_read, read_file, refusal_of};
 use rvm_journal::whole_size;
@@ -17,6 +17,7 @@ use rvm_replay::audit::{AuditText, audit_journals as audit_files};
 use rvm_replay::file::JournalFile;
 use rvm_replay::replay_command::replay_command;
 use rvm_replay::replay_session::replay_session;
+use rvm_replay::turn_session::replay_turns as replay_files;
 use std::alloc::{AllocError, Global};
 use std::io::{Read, Write};
 
@@ -172,6 +173,104 @@ fn read_named<'a, F: NamedFiles>(
     }
 }
 
+/// Reads the journals of the hosts of a world and the image of its guest, and answers the session that is named for the guest
+/// as it was after a turn. If a file is refused, writes its name and the refusal to `errors`, and returns the status 1.
+pub(crate) fn replay_turns<
+    M: PagedMemory + Drop,
+    F: NamedFiles,
+    I: Read,
+    O: Write,
+    P: Write,
+    E: Write,
+>(
+    alloc: Global,
+    files: &F,
+    arguments: &ReplayTurnsArguments,
+    input: &mut I,
+    output: &mut O,
+    progress: &mut P,
+    errors: &mut E,
+) -> Told
+    ensures ended { IfOk result (λ status. TurnsEnded (F.bytes_of files.now) arguments.now status (I.remaining input.old)
+        (O.contents output.old) (written (E.contents errors.old) (E.contents errors.new))) }
+    ensures untold { OnErr result (ToTell (λ status errors. TurnsEnded (F.bytes_of files.now) arguments.now status
+        (I.remaining input.old) (O.contents output.old) errors)) }
+{
+    match read_audited(alloc, files, arguments.image, arguments.journals.as_slice()) {
+        Ok(read) => replay_turns_read::<M, F, I, O, P, E>(
+            alloc, files, arguments, &read, input, output, progress, errors,
+        ),
+        Err((path, why)) => tell_file(path, why, errors),
+    }
+}
+
+/// Answers the session that is named for the guest of journals that were read, as it was after a turn.
+fn replay_turns_read<M: PagedMemory + Drop, F: NamedFiles, I: Read, O: Write, P: Write, E: Write>(
+    alloc: Global,
+    files: &F,
+    arguments: &ReplayTurnsArguments,
+    read: &AuditFiles<'_>,
+    input: &mut I,
+    output: &mut O,
+    progress: &mut P,
+    errors: &mut E,
+) -> Told
+    ensures ended { IfOk result (λ status. AreTurnsMade (F.bytes_of files.now) arguments.now status
+        read.now.journals.items read.now.image.items (I.remaining input.old) (O.contents output.old)
+        (written (E.contents errors.old) (E.contents errors.new))) }
+    ensures untold { OnErr result (ToTell (λ status errors. AreTurnsMade (F.bytes_of files.now) arguments.now status
+        read.now.journals.items read.now.image.items (I.remaining input.old) (O.contents output.old) errors)) }
+{
+    if arguments.script == STANDARD_INPUT {
+        return answer_turns::<M, I, O, P, E>(
+            alloc, arguments, read, input, output, progress, errors,
+        );
+    }
+    match files.open(arguments.script) {
+        Ok(mut script) => answer_turns::<M, F::Opened, O, P, E>(
+            alloc,
+            arguments,
+            read,
+            &mut script,
+            output,
+            progress,
+            errors,
+        ),
+        Err(why) => tell_file(arguments.script, why, errors),
+    }
+}
+
+/// Answers a session for the guest of journals as it was after a turn, to a buffer in front of `output`.
+fn answer_turns<M: PagedMemory + Drop, R: Read, O: Write, P: Write, E: Write>(
+    alloc: Global,
+    arguments: &ReplayTurnsArguments,
+    read: &AuditFiles<'_>,
+    session: &mut R,
+    output: &mut O,
+    progress: &mut P,
+    errors: &mut E,
+) -> Told
+    ensures ended { (files : Named) → IfOk result (λ status. IsTurnsAnswerEnd status files arguments.now
+        read.now.journals.items read.now.image.items (R.remaining session.old) (O.contents output.old)
+        (written (E.contents errors.old) (E.contents errors.new))) }
+    ensures untold { (files : Named) → OnErr result (ToTell (λ status errors. IsTurnsAnswerEnd status files arguments.now
+        read.now.journals.items read.now.image.items (R.remaining session.old) (O.contents output.old) errors)) }
+{
+    match buffered(alloc, output) {
+        Ok(mut output) => replay_files::<M, R, _, P, E>(
+            alloc,
+            &read.journals,
+            &read.image,
+            arguments.turns,
+            session,
+            &mut output,
+            progress,
+            errors,
+        ),
+        Err(why) => tell(Refused::from(why), errors),
+    }
+}
+
 /// Reads the journals of the hosts of a world and the image of its guest, and audits the journals. If a file is refused,
 /// writes its name and the refusal to `errors`, and returns the status 1.
 pub(crate) fn audit_journals<M: PagedMemory + Drop, F: NamedFiles, O: Write, P: Write, E: Write>(
@@ -187,7 +286,7 @@ pub(crate) fn audit_journals<M: PagedMemory + Drop, F: NamedFiles, O: Write, P: 
     ensures untold { OnErr result (ToTell (λ status errors. JournalsEnded (F.bytes_of files.now) (F.created_of files.now)
         arguments.now status (O.contents output.old) errors)) }
 {
-    match read_audited(alloc, files, arguments) {
+    match read_audited(alloc, files, arguments.image, arguments.journals.as_slice()) {
         Ok(read) => show_audit::<M, F, O, P, E>(
             alloc, files, arguments, &read, output, progress, errors,
         ),
@@ -305,19 +404,21 @@ struct AuditFiles<'a> {
     image: Vec<u8>,
 }
 
-/// Reads the files of an audit. Fails with the name of the first file that is refused, and the refusal.
+/// Reads the files of an audit: an image, and journals. Fails with the name of the first file that is refused, and the
+/// refusal.
 fn read_audited<'a, F: NamedFiles>(
     alloc: Global,
     files: &F,
-    arguments: &AuditJournalsArguments<'a>,
+    image: &'a str,
+    journals: &[&'a str],
 ) -> Result<AuditFiles<'a>, (&'a str, Refusal)>
-    ensures journals { IfOk result (λ r. AreJournals (F.bytes_of files.now) arguments.now.journals.items r.journals.items) }
-    ensures image { IfOk result (λ r. IsFile (F.bytes_of files.now arguments.now.image.now) r.image.items) }
+    ensures journals { IfOk result (λ r. AreJournals (F.bytes_of files.now) journals.now r.journals.items) }
+    ensures image { IfOk result (λ r. IsFile (F.bytes_of files.now image.now) r.image.items) }
     ensures refused { IfErr result (λ e. IsRefusedFile (F.bytes_of files.now e.0.now) e.1) }
 {
-    let image = read_told(files, alloc, arguments.image)?;
+    let image = read_told(files, alloc, image)?;
     Ok(AuditFiles {
-        journals: read_journals(alloc, files, arguments.journals.as_slice())?,
+        journals: read_journals(alloc, files, journals)?,
         image,
     })
 }

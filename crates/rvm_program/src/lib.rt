@@ -51,12 +51,12 @@ const REPORT_SIZE: usize = 256;
 
 /// Does what the words of a command line ask for. The first word is the program's name. Returns the status: 0 if it was
 /// done; 1 if it was refused, or if a write to `errors` failed, so that the report of how it ended is missing; 2 for a
-/// fault of the command line, which writes nothing to `output`; 3 if `tell` lost an answer of a host. If the status of
+/// fault of the command line, which writes nothing to `output`; 3 if `tell` lost an answer of a host, or if what was cut off from journals may explain that they have no order. If the status of
 /// a run tells how it ended (`StatusOf`), it may be any number; with a verdict, that of a move may also be 3 or 4, and
 /// that of a host 3. `input` is standard input, `output` and `errors` are standard output and standard error. The
 /// memory of each guest is an `M`. A guest moves by threads, which may wait for one another, and over TCP. The files
-/// are those of the runtime. So is the standard input of `host --input -`, which a thread of its own reads until the
-/// process ends.
+/// are those of the runtime. So is the standard input of `host --input -` and of `run --input -`, which a thread of its own
+/// reads until the process ends.
 ///
 /// At most one byte more is read of a file than it may have. An image of plain bytes may have as many bytes as RAM;
 /// with more it is refused with `OutsideRam`. An ELF file, what `dis` lists, an assembly text and each other file of
@@ -377,6 +377,9 @@ where
             output,
             errors,
         ),
+        Arguments::Live(arguments) => Ok(commands::live::<M, Rt, F, O, E>(
+            rt, files, arguments, output, errors,
+        )),
         Arguments::Orders(arguments) => orders::run_orders::<M, F, O, E>(
             rt.alloc(),
             files,
@@ -417,6 +420,15 @@ where
             arguments,
             input,
             output,
+            errors,
+        )),
+        Arguments::ReplayTurns(arguments) => Ok(journals::replay_turns::<M, F, I, O, _, E>(
+            rt.alloc(),
+            files,
+            arguments,
+            input,
+            output,
+            &mut rt.progress(),
             errors,
         )),
         Arguments::AuditJournals(arguments) => Ok(journals::audit_journals::<M, F, O, _, E>(

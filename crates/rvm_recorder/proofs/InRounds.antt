@@ -37,6 +37,12 @@ rounds_length turn harts steps drain (suc n) =
     ap length (rounds_first turn harts steps drain n)
     ∙ omega (arith, more, first, suc-mul n (steps + 1), length-append (steps_in_turn turn harts steps) (dry_entry drain ∷ rest))
 
+-- of the entries of rounds, one of each round is a drain
+pub without_drains : (count steps len : ℕ) → len ≡ count * (steps + 1) → (count ≤ len) × (len ≡ count * steps + count)
+without_drains count steps len is =
+    let all : count * (steps + 1) ≡ count * steps + count = ap (λ n. count * n) (omega arith) ∙ mul-suc count steps ∙ omega arith in
+    (omega (arith, is, all), is ∙ all)
+
 -- rounds after rounds
 rounds_append : (n turn harts steps drain m : ℕ) → rounds_in_turn turn harts steps drain (n + m)
     ≡ rounds_in_turn turn harts steps drain n ++ rounds_in_turn (turn + n * steps) harts steps drain m

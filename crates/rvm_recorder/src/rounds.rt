@@ -26,6 +26,14 @@ impl Rounds {
         self.count * (self.steps + 1)
     }
 
+    /// Returns how many turns the rounds have.
+    #[tactic(auto, using(crate::proofs::InRounds::without_drains))]
+    pub fn turns(&self) -> u32
+        ensures { result ≡ self.now.count * self.now.steps }
+    {
+        self.len() - self.count
+    }
+
     /// Returns the steps of the first round.
     pub fn first(&self) -> Steps
         ensures turn { result.turn ≡ self.now.turn }

@@ -22,11 +22,11 @@ use Rattle.rvm_protocol.specs.World.{new_world}
 use Rattle.rvm_recorder.specs.History.{History, Recording}
 use Rattle.rvm_refusal.specs.declared.refusal.Refusal.TheVariants as refusal
 use Rattle.rvm_replay.specs.Audited.{AreReplayed, IsWritten, journals_in}
-use Rattle.rvm_replay.specs.Findings.{EndsAt, HasAuditStatus, HasFindingStatus, IsFaultTold, IsFinding, IsUntoldAudit, IsUntoldFinding, cuts_of, histories_in, is_cut, name_of, refuted_text, undecided_text}
+use Rattle.rvm_replay.specs.Findings.{EndsAt, HasAuditStatus, HasFindingStatus, HasNoOrder, IsFaultTold, IsUnordered, IsUntoldAudit, IsUntoldFinding, IsUntoldNoOrder, cuts_of, histories_in, is_cut, name_of, refuted_text, undecided_text}
 use Rattle.rvm_replay.specs.FileFaults.{fault_line}
 use Rattle.rvm_replay.specs.Unaudited.{IsJournalsFault}
 use Rattle.rvm_replay.specs.declared.audit.AuditText.{AuditText}
-use Rattle.rvm_replay.specs.declared.audit.Finding.TheVariants.{Contradicted, Undecided}
+use Rattle.rvm_replay.specs.declared.audit.Unordered.TheVariants.{Contradicted, Undecided}
 use Rattle.rvm_replay.specs.declared.file.JournalFile.{JournalFile}
 use Rattle.rvm_replay.specs.declared.file.JournalsFault.{JournalsFault}
 use Rattle.rvm_replay.specs.declared.file.JournalsFault.TheVariants as journals
@@ -48,7 +48,7 @@ module _ (files : List JournalFile) (all : List Recording) (js js1 js2 : List (B
       (subst (λ hs. IsAudit (journals_of hs) (NoOrder places)) (ap histories_of is1 ∙ same) audit)
 
   pub contradicted_if : (found ≡ true → AreContradicted (histories_of js2) cuts') → found ≡ true
-      → IsFinding files all (Contradicted places)
+      → IsUnordered files all (Contradicted places)
   contradicted_if holds is = (
     there,
     subst (λ hs. AreContradicted hs (cuts_of files (length all))) (ap histories_of is2 ∙ same)
@@ -56,7 +56,7 @@ module _ (files : List JournalFile) (all : List Recording) (js js1 js2 : List (B
   )
 
   pub explained_if : (found ≡ false → AreExplained (histories_of js2) cuts') → found ≡ false
-      → IsFinding files all (Undecided places)
+      → IsUnordered files all (Undecided places)
   explained_if holds is = (
     there,
     subst (λ hs. AreExplained hs (cuts_of files (length all))) (ap histories_of is2 ∙ same)
@@ -68,19 +68,57 @@ pub marks_long : (files : List JournalFile) (n : ℕ) → length (cuts_of files 
 marks_long files zero = refl
 marks_long files (suc x) = length-append (cuts_of files x) (is_cut files x ∷ []) ∙ ap (λ k. k + 1) (marks_long files x) ∙ omega arith
 
-module _ (files : List JournalFile) (all : List Recording) (text : AuditText) (out out' errors errors' : Option (List ℕ)) where
-  -- the journals contradict one another
+-- the journals have no order, which was reported
+module _ (files : List JournalFile) (all : List Recording) (errors errors' : Option (List ℕ)) where
   pub refuted : (places : ℕ → ℕ) → EndsAt all places → AreContradicted (histories_in all) (cuts_of files (length all))
-      → Appends errors errors' (refuted_text files all places) → out' ≡ out
-      → HasFindingStatus 1 files all text out out' errors errors'
-  refuted places ends is told same = inl (record { places = places; ends = ends; contradicted = is; told = told }, same)
+      → Appends errors errors' (refuted_text files all places) → HasNoOrder 1 files all errors errors'
+  refuted places ends is told = record { places = places; ends = ends; contradicted = is; told = told }
 
-  -- what was cut off may explain that there is no order
   pub undecided : (places : ℕ → ℕ) → EndsAt all places → AreExplained (histories_in all) (cuts_of files (length all))
-      → Appends errors errors' (undecided_text files all places) → out' ≡ out
-      → HasFindingStatus 3 files all text out out' errors errors'
-  undecided places ends is told same = (record { places = places; ends = ends; explained = is; told = told }, same)
+      → Appends errors errors' (undecided_text files all places) → HasNoOrder 3 files all errors errors'
+  undecided places ends is told = record { places = places; ends = ends; explained = is; told = told }
 
+  no_order : (status : ℕ) (text : AuditText) (out : Option (List ℕ)) → HasNoOrder status files all errors errors'
+      → HasFindingStatus status files all text out out errors errors'
+  no_order zero text out none = absurd none
+  no_order (suc zero) text out is = inl (is, refl)
+  no_order (suc (suc zero)) text out none = absurd none
+  no_order (suc (suc (suc zero))) text out is = (is, refl)
+  no_order (suc (suc (suc (suc n)))) text out none = absurd none
+
+  pub no_order_found : {F : Type 0} (r : Result ℕ F) (text : AuditText) (out : Option (List ℕ))
+      → IfOk r (λ s. HasNoOrder s files all errors errors')
+      → IfOk r (λ s. HasFindingStatus s files all text out out errors errors')
+  no_order_found (Ok s) text out is = no_order s text out is
+  no_order_found (Err e) text out is = tt
+
+  -- such a status is not 0
+  pub not_zero : {F : Type 0} (P : Type 0) (r : Result ℕ F) → IfOk r (λ s. HasNoOrder s files all errors errors')
+      → IfOk r (λ s. s ≡ 0 → P)
+  not_zero P (Ok s) is = λ zero. absurd (subst (λ n. HasNoOrder n files all errors errors') zero is)
+  not_zero P (Err e) is = tt
+
+-- the same, where a report is not complete
+module _ (files : List JournalFile) (all : List Recording) where
+  pub refuted_untold : (places : ℕ → ℕ) → EndsAt all places
+      → AreContradicted (histories_in all) (cuts_of files (length all)) → IsUntoldNoOrder files all
+  refuted_untold places ends is =
+      let report = refuted_text files all places in
+      (1, report, refuted files all (Some []) (Some report) places ends is refl)
+
+  pub undecided_untold : (places : ℕ → ℕ) → EndsAt all places
+      → AreExplained (histories_in all) (cuts_of files (length all)) → IsUntoldNoOrder files all
+  undecided_untold places ends is =
+      let report = undecided_text files all places in
+      (3, report, undecided files all (Some []) (Some report) places ends is refl)
+
+  pub no_order_untold : {F : Type 0} (r : Result ℕ F) (text : AuditText) (out : Option (List ℕ))
+      → OnErr r (IsUntoldNoOrder files all) → OnErr r (IsUntoldFinding files all text out out)
+  no_order_untold (Ok s) text out untold = tt
+  no_order_untold (Err e) text out (s, report, is) =
+      (s, report, no_order files all (Some []) (Some report) s text out is)
+
+module _ (files : List JournalFile) (all : List Recording) (text : AuditText) (out out' errors errors' : Option (List ℕ)) where
   -- memory ran out, which was reported
   pub out_of_memory : IsTold (refused refusal.OutOfMemory) errors errors' → out' ≡ out
       → HasFindingStatus 1 files all text out out' errors errors'
@@ -97,18 +135,6 @@ module _ (files : List JournalFile) (all : List Recording) (text : AuditText) (o
 
 -- the same, where a report is not complete
 module _ (files : List JournalFile) (all : List Recording) (text : AuditText) (out out' : Option (List ℕ)) where
-  pub refuted_untold : (places : ℕ → ℕ) → EndsAt all places
-      → AreContradicted (histories_in all) (cuts_of files (length all)) → out' ≡ out → IsUntoldFinding files all text out out'
-  refuted_untold places ends is same =
-      let report = refuted_text files all places in
-      (1, report, refuted files all text out out' (Some []) (Some report) places ends is refl same)
-
-  pub undecided_untold : (places : ℕ → ℕ) → EndsAt all places
-      → AreExplained (histories_in all) (cuts_of files (length all)) → out' ≡ out → IsUntoldFinding files all text out out'
-  undecided_untold places ends is same =
-      let report = undecided_text files all places in
-      (3, report, undecided files all text out out' (Some []) (Some report) places ends is refl same)
-
   pub memory_untold : out' ≡ out → IsUntoldFinding files all text out out'
   memory_untold same =
       let report = refused_text (refused refusal.OutOfMemory) ++ codes "\n" in
@@ -153,6 +179,12 @@ module _ (files : List JournalFile) (image : List ℕ) (all : List Recording) (a
   all_untold (Ok s) untold = tt
   all_untold (Err e) untold = (untold.0, untold.1, audited untold.0 (Some []) (Some untold.1) untold.2)
 
+-- the report of why journals are not audited
+pub told_of : (files : List JournalFile) (f : JournalsFault) → (report : List ℕ) × IsFaultTold files f (Some []) (Some report)
+told_of files journals.OutOfMemory = (refused_text (refused refusal.OutOfMemory) ++ codes "\n", refl)
+told_of files journals.NoGuest = (codes "no journal begins with a guest" ++ codes "\n", refl)
+told_of files (journals.File i f) = (fault_line (name_of (slice_get files i)) f, refl)
+
 -- journals are not audited
 module _ (files : List JournalFile) (image : List ℕ) (text : AuditText) (out out' : Option (List ℕ)) (fault : JournalsFault)
     (reason : IsJournalsFault files image fault) where
@@ -160,11 +192,6 @@ module _ (files : List JournalFile) (image : List ℕ) (text : AuditText) (out o
       → HasAuditStatus 1 files image text out out' errors errors'
   not_audited errors errors' told same = inl (record { fault = fault; reason = reason; told = told; same = same })
 
-  told_of : (f : JournalsFault) → (report : List ℕ) × IsFaultTold files f (Some []) (Some report)
-  told_of journals.OutOfMemory = (refused_text (refused refusal.OutOfMemory) ++ codes "\n", refl)
-  told_of journals.NoGuest = (codes "no journal begins with a guest" ++ codes "\n", refl)
-  told_of (journals.File i f) = (fault_line (name_of (slice_get files i)) f, refl)
-
   pub not_audited_untold : out' ≡ out → IsUntoldAudit files image text out out'
   not_audited_untold same =
-      let told = told_of fault in (1, told.0, not_audited (Some []) (Some told.0) told.1 same)
+      let told = told_of files fault in (1, told.0, not_audited (Some []) (Some told.0) told.1 same)

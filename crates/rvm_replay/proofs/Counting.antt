@@ -28,7 +28,7 @@ module _ (f : PlainEntry → ℕ) where
   one e = sum_by-cons f e [] ∙ omega arith
 
   module _ (k : ℕ) (each : (turn harts : ℕ) → f (step_entry turn harts (step.Stepped Retired)) ≡ k) where
-    of_steps : (turn harts n : ℕ) → sum_by f (steps_in_turn turn harts n) ≡ n * k
+    pub of_steps : (turn harts n : ℕ) → sum_by f (steps_in_turn turn harts n) ≡ n * k
     unfolding steps_in_turn
     of_steps turn harts zero = omega arith
     of_steps turn harts (suc n) =
@@ -36,7 +36,7 @@ module _ (f : PlainEntry → ℕ) where
         sum_by-cons f (step_entry turn harts (step.Stepped Retired)) (steps_in_turn (turn + 1) harts n)
         ∙ omega (arith, here, rest, suc-mul n k)
 
-    of_rounds : (m : ℕ) → ((drain : ℕ) → f (dry_entry drain) ≡ m) → (turn harts steps drain n : ℕ)
+    pub of_rounds : (m : ℕ) → ((drain : ℕ) → f (dry_entry drain) ≡ m) → (turn harts steps drain n : ℕ)
         → sum_by f (rounds_in_turn turn harts steps drain n) ≡ n * (steps * k + m)
     unfolding rounds_in_turn
     of_rounds m dry turn harts steps drain zero = omega arith

@@ -7,9 +7,13 @@ mod AuditEnds
 mod Counting
 mod SummaryLines
 mod Charting
+mod JournalTurns
+mod CountedTurns
+mod PlacedTurns
+mod TurnEnds
 mod Examples
 mod PlaceLines
 pub mod OneWorld
 mod Showing
-mod Replayed
+pub mod Replayed
 mod UntoldReplays

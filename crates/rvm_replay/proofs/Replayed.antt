@@ -1,5 +1,5 @@
 -- The host of a journal did again what the journal tells, or the journal was refused.
-use Rattle.std.proofs.Common.{◌≡◌, ◌∙◌, ℕ, true, false, List, [], ◌++◌, Option, None, Some, inr, refl, sym, ap, subst, arith}
+use Rattle.std.proofs.Common.{◌≡◌, ◌⊎◌, ◌∙◌, ℕ, true, false, List, [], ◌++◌, Option, None, Some, inl, inr, refl, sym, ap, subst, arith}
 use Rattle.std.proofs.lemmas.Bool.Decides.{nat_tests}
 use Rattle.std.proofs.lemmas.Result.{IfOk-weaker}
 use Rattle.std.specs.Io.KnownBytes.{Appends}
@@ -17,7 +17,7 @@ use Rattle.rvm_replay.specs.declared.file.FileFault.{FileFault}
 use Rattle.rvm_replay.specs.declared.file.FileFault.TheVariants as fault
 use Rattle.rvm_replay.specs.FileFaults.{IsFileFault, IsGuestFault}
 use Rattle.rvm_replay.specs.Journals.{IsGuestNamed, IsHostAfter}
-use Rattle.rvm_replay.specs.Replays.{HasAnswered, IsAnswered, IsNoSession, IsNotShown, IsReplay, IsShown, IsShownAgain, IsUnanswered, guest_after, no_guest_line}
+use Rattle.rvm_replay.specs.Replays.{HasAnswered, HasSessionStatus, IsAnswered, IsNoSession, IsNotShown, IsReplay, IsShown, IsShownAgain, IsUnanswered, guest_after, no_guest_line}
 
 -- a host of each header has numbers within their limits
 sized : (h : Header) → IsRanged h → is_sized h.host h.hosts 4096 3 ≡ true
@@ -115,3 +115,27 @@ pub nobody_here : (name : List ℕ) (guest : Option Guest) (n count : ℕ) (sess
 nobody_here name None n count session same errors_before errors_after none is reported =
     (refl, subst (λ k. Appends errors_before errors_after (no_guest_line name k)) is reported)
 nobody_here name (Some g) n count session same errors_before errors_after none is reported = cc
+
+-- by its status, how a session was answered
+pub session_status : (s : ℕ) (name : List ℕ) (most : Option ℕ) (journal image : List ℕ)
+    (session before after errors_before errors_after : Option (List ℕ)) → (s ≡ 0) ⊎ (s ≡ 1)
+    → (s ≡ 0 → HasAnswered most journal image session before after) → (s ≡ 0 → errors_after ≡ errors_before)
+    → (s ≡ 1 → IsNoSession name most journal image session before after errors_before errors_after)
+    → HasSessionStatus s name most journal image session before after errors_before errors_after
+session_status s name most journal image session before after errors_before errors_after status answered silent refused_is =
+    elim status [
+      | inl none ↦ subst (λ n. HasSessionStatus n name most journal image session before after errors_before errors_after)
+          (sym none) (answered none, silent none)
+      | inr one ↦ subst (λ n. HasSessionStatus n name most journal image session before after errors_before errors_after)
+          (sym one) (refused_is one)
+    ]
+
+pub session_status_of : {F : Type 0} (r : Result ℕ F) (name : List ℕ) (most : Option ℕ) (journal image : List ℕ)
+    (session before after errors_before errors_after : Option (List ℕ)) → IfOk r (λ s. (s ≡ 0) ⊎ (s ≡ 1))
+    → IfOk r (λ s. s ≡ 0 → HasAnswered most journal image session before after)
+    → IfOk r (λ s. s ≡ 0 → errors_after ≡ errors_before)
+    → IfOk r (λ s. s ≡ 1 → IsNoSession name most journal image session before after errors_before errors_after)
+    → IfOk r (λ s. HasSessionStatus s name most journal image session before after errors_before errors_after)
+session_status_of (Ok s) name most journal image session before after errors_before errors_after status answered silent refused_is =
+    session_status s name most journal image session before after errors_before errors_after status answered silent refused_is
+session_status_of (Err e) name most journal image session before after errors_before errors_after status answered silent refused_is = tt

@@ -13,7 +13,6 @@ use Rattle.rvm_audit.specs.Worlds.{IsWorldRun}
 use Rattle.rvm_core.specs.declared.event.Event.{Event}
 use Rattle.rvm_core.specs.EventLines.{event_lines}
 use Rattle.rvm_journal.specs.declared.header.Header.{Header}
-use Rattle.rvm_journal.specs.declared.header.Image.{Image}
 use Rattle.rvm_replay.specs.declared.audit.AuditText.{AuditText}
 use Rattle.rvm_replay.specs.declared.audit.AuditText.TheVariants.{Chart, Order, Summary}
 use Rattle.rvm_replay.specs.declared.file.JournalFile.{JournalFile}

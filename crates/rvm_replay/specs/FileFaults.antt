@@ -1,5 +1,5 @@
 -- What is wrong with a journal in a file, and what is reported of it.
-use Rattle.std.specs.Prelude.{◌≡◌, ◌≢◌, ℕ, List, [], ◌++◌, Option, Some, None, IsSomeAnd, codes}
+use Rattle.std.specs.Prelude.{◌≡◌, ◌≢◌, ℕ, List, [], ◌++◌, Option, None, IsSomeAnd, codes}
 use Rattle.std.specs.Char.{encode_utf8}
 use Rattle.sha2.specs.Sha256.{sha256}
 use Rattle.rvm_command.specs.declared.refused.Refused.{Refused}

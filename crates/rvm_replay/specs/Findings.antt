@@ -1,5 +1,5 @@
 -- What an audit of journals in files found, and the status that says so.
-use Rattle.std.specs.Prelude.{◌≡◌, ◌⊎◌, ⊤, ℕ, zero, suc, ◌&&◌, not, Bool, false, List, [], ◌∷◌, ◌++◌, codes, length, map, Option, None, Some, slice_get}
+use Rattle.std.specs.Prelude.{◌≡◌, ◌⊎◌, ℕ, zero, suc, ◌&&◌, not, Bool, List, [], ◌∷◌, ◌++◌, codes, length, map, Option, None, Some, slice_get}
 use Rattle.std.specs.Io.KnownBytes.{Appends}
 use Rattle.std.specs.List.{list_any}
 use Rattle.rvm_audit.specs.Cuts.{AreContradicted, AreExplained}
@@ -19,7 +19,9 @@ use Rattle.rvm_replay.specs.PlaceLines.{place_lines}
 use Rattle.rvm_replay.specs.Unaudited.{IsJournalsFault}
 use Rattle.rvm_replay.specs.declared.audit.AuditText.{AuditText}
 use Rattle.rvm_replay.specs.declared.audit.Finding.{Finding}
-use Rattle.rvm_replay.specs.declared.audit.Finding.TheVariants.{Contradicted, InOrder, Undecided}
+use Rattle.rvm_replay.specs.declared.audit.Finding.TheVariants.{InOrder, Unordered as NotInOrder}
+use Rattle.rvm_replay.specs.declared.audit.Unordered.{Unordered}
+use Rattle.rvm_replay.specs.declared.audit.Unordered.TheVariants.{Contradicted, Undecided}
 use Rattle.rvm_replay.specs.declared.file.JournalFile.{JournalFile}
 use Rattle.rvm_replay.specs.declared.file.JournalsFault.{JournalsFault}
 use Rattle.rvm_replay.specs.declared.file.JournalsFault.TheVariants as journals
@@ -71,13 +73,27 @@ pub record AreUndecided (files : List JournalFile) (all : List Recording) (error
   pub explained : AreExplained (histories_in all) (cuts_of files (length all))
   pub told : Appends errors errors' (undecided_text files all places)
 
+-- why the journals of these hosts have no order
+abbrev pub IsUnordered : List JournalFile → List Recording → Unordered → Type 0
+IsUnordered files all (Contradicted places) =
+    EndsAt all (taken places.items) × AreContradicted (histories_in all) (cuts_of files (length all))
+IsUnordered files all (Undecided places) =
+    EndsAt all (taken places.items) × AreExplained (histories_in all) (cuts_of files (length all))
+
 -- what was found of the journals of these hosts
 abbrev pub IsFinding : List JournalFile → List Recording → Finding → Type 0
 IsFinding files all (InOrder order) = IsMerge (journals_in all) order
-IsFinding files all (Contradicted places) =
-    EndsAt all (taken places.items) × AreContradicted (histories_in all) (cuts_of files (length all))
-IsFinding files all (Undecided places) =
-    EndsAt all (taken places.items) × AreExplained (histories_in all) (cuts_of files (length all))
+IsFinding files all (NotInOrder why) = IsUnordered files all why
+
+-- by its status, why the journals of these hosts have no order, which was reported
+abbrev pub HasNoOrder : (status : ℕ) → List JournalFile → List Recording → (errors errors' : Option (List ℕ)) → Type 0
+HasNoOrder (suc zero) files all errors errors' = AreRefuted files all errors errors'
+HasNoOrder (suc (suc (suc zero))) files all errors errors' = AreUndecided files all errors errors'
+HasNoOrder status files all errors errors' = ⊥
+
+-- that report is not complete, since a write to the errors failed: errors that held nothing would hold it
+abbrev pub IsUntoldNoOrder : List JournalFile → List Recording → Type 0
+IsUntoldNoOrder files all = (status : ℕ) × (report : List ℕ) × HasNoOrder status files all (Some []) (Some report)
 
 -- why what was found has the status 1, and what was written and reported then: the journals contradict one another, memory
 -- ran out, or a write failed

@@ -9,3 +9,4 @@ pub mod Audited
 pub mod Unaudited
 pub mod PlaceLines
 pub mod Findings
+pub mod Turns

@@ -8,7 +8,7 @@ ghost use Rattle.rvm_command.specs.Refusals.{IsTold, refused};
 ghost use Rattle.rvm_refusal.specs.declared.refusal.Refusal.TheVariants as refusal;
 ghost use Rattle.rvm_audit.specs.Rule.{IsMerge};
 ghost use Rattle.rvm_replay.specs.Audited.{IsWritten, journals_in};
-ghost use Rattle.rvm_replay.specs.Findings.{HasAuditStatus, HasFindingStatus, IsFaultTold, IsFinding, IsUntoldAudit, IsUntoldFinding};
+ghost use Rattle.rvm_replay.specs.Findings.{HasAuditStatus, HasFindingStatus, HasNoOrder, IsFaultTold, IsFinding, IsUnordered, IsUntoldAudit, IsUntoldFinding, IsUntoldNoOrder};
 ghost use Rattle.rvm_replay.specs.declared.file.JournalFile.{JournalFile};
 
 use crate::chart::write_chart;
@@ -48,6 +48,13 @@ pub enum AuditText {
 pub(crate) enum Finding {
     /// The journals have an order, which is this one.
     InOrder(Order),
+    /// The journals have no order.
+    Unordered(Unordered),
+}
+
+/// Why journals have no order.
+#[derive(Drop)]
+pub(crate) enum Unordered {
     /// The journals contradict one another: they have no order, however those of them that were cut off went on. Up to
     /// these places they have one.
     Contradicted(Vec<Place>),
@@ -117,16 +124,7 @@ fn audit_replayed<M: PagedMemory + Drop, O: Write + Drop, E: Write>(
 {
     match find(alloc, files, all) {
         Ok(Finding::InOrder(order)) => write_audit(all, &order, text, output, errors),
-        Ok(Finding::Contradicted(places)) => {
-            write_places(files, all, places.as_slice(), errors)?;
-            tell_refusal(Refusal::NoOrder, errors)?;
-            Ok(1)
-        }
-        Ok(Finding::Undecided(places)) => {
-            write_places(files, all, places.as_slice(), errors)?;
-            writeln!(errors, "undecided: what was cut off may have sent the rest")?;
-            Ok(UNDECIDED)
-        }
+        Ok(Finding::Unordered(why)) => tell_unordered(files, all, why, errors),
         Err(_) => {
             tell_refusal(Refusal::OutOfMemory, errors)?;
             Ok(1)
@@ -134,8 +132,34 @@ fn audit_replayed<M: PagedMemory + Drop, O: Write + Drop, E: Write>(
     }
 }
 
+/// Reports how much of the journals of these hosts is in order, and why not all is. Returns the status.
+pub(crate) fn tell_unordered<M: PagedMemory + Drop, E: Write>(
+    files: &[JournalFile<'_>],
+    all: &[Recorded<M>],
+    why: Unordered,
+    errors: &mut E,
+) -> Result<u8, LinkFault>
+    requires few { length all.now ≤ 8 }
+    requires unordered { IsUnordered files.now all.now why }
+    ensures status { IfOk result (λ status. HasNoOrder status files.now all.now (E.contents errors.old) (E.contents errors.new)) }
+    ensures untold { OnErr result (IsUntoldNoOrder files.now all.now) }
+{
+    match why {
+        Unordered::Contradicted(places) => {
+            write_places(files, all, places.as_slice(), errors)?;
+            tell_refusal(Refusal::NoOrder, errors)?;
+            Ok(1)
+        }
+        Unordered::Undecided(places) => {
+            write_places(files, all, places.as_slice(), errors)?;
+            writeln!(errors, "undecided: what was cut off may have sent the rest")?;
+            Ok(UNDECIDED)
+        }
+    }
+}
+
 /// Looks for an order of the journals of these hosts; if there is none, whether they contradict one another.
-fn find<M: PagedMemory + Drop>(
+pub(crate) fn find<M: PagedMemory + Drop>(
     alloc: Global,
     files: &[JournalFile<'_>],
     all: &[Recorded<M>],
@@ -149,8 +173,8 @@ fn find<M: PagedMemory + Drop>(
         Audit::NoOrder(places) => {
             let cuts = cuts_of(alloc, files, all.len() as u8)?;
             match are_contradictory(alloc, journals.as_slice(), cuts.as_slice())? {
-                true => Ok(Finding::Contradicted(places)),
-                false => Ok(Finding::Undecided(places)),
+                true => Ok(Finding::Unordered(Unordered::Contradicted(places))),
+                false => Ok(Finding::Unordered(Unordered::Undecided(places))),
             }
         }
     }
@@ -214,7 +238,7 @@ fn journals_of<'a, M: PagedMemory + Drop>(
 }
 
 /// Reports why journals are not audited.
-fn tell_fault<E: Write>(
+pub(crate) fn tell_fault<E: Write>(
     files: &[JournalFile<'_>],
     fault: JournalsFault,
     errors: &mut E,
@@ -233,7 +257,7 @@ fn tell_fault<E: Write>(
 }
 
 /// Reports a refusal.
-fn tell_refusal<E: Write>(refusal: Refusal, errors: &mut E) -> Result<(), LinkFault>
+pub(crate) fn tell_refusal<E: Write>(refusal: Refusal, errors: &mut E) -> Result<(), LinkFault>
     ensures { OnOk result (IsTold (refused refusal) (E.contents errors.old) (E.contents errors.new)) }
 {
     let _status = tell(Refused::from(refusal), errors)?;

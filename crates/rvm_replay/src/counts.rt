@@ -2,6 +2,7 @@
 
 ghost use Rattle.std.specs.Prelude.{◌≡◌, ◌∷◌, [], length};
 ghost use Rattle.rvm_message.specs.Taken.{bytes_in, taken_by};
+ghost use Rattle.rvm_message.specs.declared.event.HostEvent.TheVariants.{Do};
 ghost use Rattle.rvm_replay.specs.Counts.{Adds, counts_at, counts_of, frames_in, moves_in, plus, turns_in};
 ghost use Rattle.rvm_recorder.specs.Items.{all_of, rounds_of, steps_in_turn};
 
@@ -127,12 +128,19 @@ fn counts_at(entry: &Entry) -> Counts
 }
 
 /// 1 if an event is a step of a hart, else 0.
-fn turns_in(event: &HostEvent) -> u64
+pub(crate) fn turns_in(event: &HostEvent) -> u64
     ensures { result ≡ turns_in event.now }
 {
-    let HostEvent::Do(command) = event else {
-        return 0;
-    };
+    match event {
+        HostEvent::Do(command) => u64::from(turns_of(command)),
+        HostEvent::Came(..) => 0,
+    }
+}
+
+/// 1 if a command is a step of a hart, else 0.
+pub(crate) fn turns_of(command: &Command) -> u32
+    ensures { result ≡ turns_in (Do command.now) }
+{
     match command {
         Command::Board(BoardEvent::Step(_hart)) => 1,
         _ => 0,

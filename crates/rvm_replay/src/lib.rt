@@ -5,7 +5,8 @@
 //! `rvm_audit` for the order. It must not know files, sockets or workers.
 //!
 //! To be read in this order: `file`, `hosts`, `report`, `console_of_journal`, `replay_command`, `replay_session`;
-//! `headers`, `meetings`, `world`, `cuts`, `counts`, `summary`, `drawing`, `chart`, `places`, `progress`, `audit`.
+//! `headers`, `meetings`, `world`, `cuts`, `counts`, `summary`, `drawing`, `chart`, `places`, `progress`, `audit`;
+//! `journal_turns`, `turns`, `turn_session`.
 #![tactic(auto)]
 
 pub mod audit;
@@ -17,6 +18,7 @@ mod drawing;
 pub mod file;
 mod headers;
 mod hosts;
+mod journal_turns;
 mod meetings;
 mod places;
 mod progress;
@@ -24,4 +26,6 @@ pub mod replay_command;
 pub mod replay_session;
 mod report;
 mod summary;
+pub mod turn_session;
+mod turns;
 mod world;

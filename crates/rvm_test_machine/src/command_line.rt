@@ -127,3 +127,56 @@ fn an_audit_takes_up_to_eight_journals(rt: HostRuntime) -> Result<(), Fail> {
     assert!(rt; parse_args(rt.alloc(), &words).is_err());
     Ok(())
 }
+
+#[test]
+fn a_live_run_has_a_limit_only_if_one_is_given(rt: HostRuntime) -> Result<(), Fail> {
+    let words = ["rvmove", "run", "a.elf", "--input", "-"];
+    match parse_args(rt.alloc(), &words)?.arguments {
+        Arguments::Live(live) => {
+            assert_eq!(rt; live.guest.image, "a.elf");
+            assert_eq!(rt; live.input, Some("-"));
+            assert!(rt; live.steps.is_none() && live.journal.is_none());
+        }
+        other => panic!(rt; "{other:?}"),
+    }
+    let words = [
+        "rvmove",
+        "run",
+        "a.elf",
+        "--journal",
+        "a.journal",
+        "--steps",
+        "1000000",
+    ];
+    match parse_args(rt.alloc(), &words)?.arguments {
+        Arguments::Live(live) => {
+            assert_eq!(rt; live.journal, Some("a.journal"));
+            assert_eq!(rt; live.steps, Some(1_000_000));
+            assert!(rt; live.input.is_none());
+        }
+        other => panic!(rt; "{other:?}"),
+    }
+    Ok(())
+}
+
+#[test]
+fn a_replay_of_several_journals_goes_by_turns(rt: HostRuntime) -> Result<(), Fail> {
+    let words = [
+        "rvmove", "replay", "a", "b", "--image", "i", "--turns", "7", "--script", "-",
+    ];
+    match parse_args(rt.alloc(), &words)?.arguments {
+        Arguments::ReplayTurns(replay) => {
+            assert_eq!(rt; replay.journals.as_slice(), &words[2..4]);
+            assert_eq!(rt; replay.image, "i");
+            assert_eq!(rt; replay.turns, 7);
+            assert_eq!(rt; replay.script, "-");
+        }
+        other => panic!(rt; "{other:?}"),
+    }
+    assert!(rt; parse_args(rt.alloc(), &words[..6]).is_err());
+    match parse_args(rt.alloc(), &words[..3])?.arguments {
+        Arguments::Replay(replay) => assert_eq!(rt; replay.journal, "a"),
+        other => panic!(rt; "{other:?}"),
+    }
+    Ok(())
+}

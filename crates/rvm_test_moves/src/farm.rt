@@ -154,6 +154,7 @@ where
         operators: &seat.operators,
         input: &input,
         patience: Duration::from_millis(farm.patience),
+        bandwidth: None,
         rate: None,
         until_halt: false,
     };

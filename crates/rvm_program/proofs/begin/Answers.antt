@@ -11,6 +11,13 @@ returns-in-Run-clause-untold g c =
     HasEnded (g.F.NamedFiles.bytes_of c.args.files.now) (g.F.NamedFiles.created_of c.args.files.now) a status
     (g.I.Read.remaining c.args.input.now) output errors)))) (sym c.in-Run.is) c.run.ensures.untold
 
+pub returns-in-Live-clause-untold : goal.returns-in-Live-clause-untold
+returns-in-Live-clause-untold g c =
+    let output = written (g.O.Write.contents c.args.output.now) (g.O.Write.contents c.live.new.output) in
+    subst (λ a. OnErr c.live.result (ToTell (λ status errors.
+    HasEnded (g.F.NamedFiles.bytes_of c.args.files.now) (g.F.NamedFiles.created_of c.args.files.now) a status
+    (g.I.Read.remaining c.args.input.now) output errors))) (sym c.in-Live.is) c.live.ensures.untold
+
 pub returns-in-Orders-clause-untold : goal.returns-in-Orders-clause-untold
 returns-in-Orders-clause-untold g c =
     let output = written (g.O.Write.contents c.args.output.now) (g.O.Write.contents c.run_orders.new.output) in
@@ -66,6 +73,13 @@ returns-in-Replay-clause-untold g c =
     subst (λ a. OnErr c.replay.result (ToTell (λ status errors.
     HasEnded (g.F.NamedFiles.bytes_of c.args.files.now) (g.F.NamedFiles.created_of c.args.files.now) a status
     (g.I.Read.remaining c.args.input.now) output errors))) (sym c.in-Replay.is) c.replay.ensures.untold
+
+pub returns-in-ReplayTurns-clause-untold : goal.returns-in-ReplayTurns-clause-untold
+returns-in-ReplayTurns-clause-untold g c =
+    let output = written (g.O.Write.contents c.args.output.now) (g.O.Write.contents c.replay_turns.new.output) in
+    subst (λ a. OnErr c.replay_turns.result (ToTell (λ status errors.
+    HasEnded (g.F.NamedFiles.bytes_of c.args.files.now) (g.F.NamedFiles.created_of c.args.files.now) a status
+    (g.I.Read.remaining c.args.input.now) output errors))) (sym c.in-ReplayTurns.is) c.replay_turns.ensures.untold
 
 pub returns-in-AuditJournals-clause-untold : goal.returns-in-AuditJournals-clause-untold
 returns-in-AuditJournals-clause-untold g c =

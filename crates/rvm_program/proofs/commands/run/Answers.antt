@@ -1,7 +1,6 @@
 use Rattle.std.proofs.Common.{◌≤◌, length, rules}
 use Rattle.std.specs.Prelude.{OnErr, Result}
 use Rattle.std.specs.Result.{IfOk}
-use Rattle.rvm_arguments.specs.declared.arguments.RunArguments.{RunArguments}
 use Rattle.rvm_command.specs.Ends.{RunHasStatus}
 use Rattle.rvm_command.specs.declared.refused.Refused.{Refused}
 use Rattle.rvm_command.specs.declared.run.Ended.{Ended}

@@ -1,4 +1,4 @@
-use Rattle.std.proofs.Common.{List, None, Option, ℕ}
+use Rattle.std.proofs.Common.{None}
 use Rattle.std.specs.Io.Buffered.{writer_contents}
 use Rattle.either.specs.Either.{either}
 use Rattle.rvm_program.specs.Ended.{written}

@@ -1,24 +1,29 @@
-use Rattle.std.proofs.Common.{ℕ}
-use Rattle.rvm_program.specs.Ended.{HasAudited, Written, written}
+use Rattle.std.proofs.Common.{List, ℕ, subst}
+use denote.Ref.{Bor}
+use Rattle.rvm_program.specs.Ended.{AreJournals, HasAudited, Written, written}
 use Rattle.rvm_program.proofs.AuditedFiles.{has_audited, untold_audit}
 use Rattle.rvm_program.proofs.ReplayEnds.{file_untold}
 use Rattle.rvm_program.proofs.journals.audit_journals.Goals as goal
 
 pub returns-in-Ok-clause-ended : goal.returns-in-Ok-clause-ended
 returns-in-Ok-clause-ended g c =
+    let journals = subst (λ (names : List (Bor (List ℕ))). AreJournals (g.F.NamedFiles.bytes_of c.args.files.now) names
+    c.in-Ok.read.journals.items) c.as_slice.ensures.value c.in-Ok.ensures.journals in
     has_audited (g.F.NamedFiles.bytes_of c.args.files.now) (g.F.NamedFiles.created_of c.args.files.now) c.args.arguments.now
     c.in-Ok.read.journals.items
     c.in-Ok.read.image.items (g.O.Write.contents c.args.output.now)
     (written (g.E.Write.contents c.args.errors.now) (g.E.Write.contents c.show_audit.new.errors)) c.show_audit.result
-    c.in-Ok.ensures.journals c.in-Ok.ensures.image
+    journals c.in-Ok.ensures.image
     c.show_audit.ensures.ended
 
 pub returns-in-Ok-clause-untold : goal.returns-in-Ok-clause-untold
 returns-in-Ok-clause-untold g c =
+    let journals = subst (λ (names : List (Bor (List ℕ))). AreJournals (g.F.NamedFiles.bytes_of c.args.files.now) names
+    c.in-Ok.read.journals.items) c.as_slice.ensures.value c.in-Ok.ensures.journals in
     untold_audit (g.F.NamedFiles.bytes_of c.args.files.now) (g.F.NamedFiles.created_of c.args.files.now) c.args.arguments.now
     c.in-Ok.read.journals.items
     c.in-Ok.read.image.items (g.O.Write.contents c.args.output.now) c.show_audit.result
-    c.in-Ok.ensures.journals c.in-Ok.ensures.image
+    journals c.in-Ok.ensures.image
     c.show_audit.ensures.untold
 
 pub returns-in-Err-clause-untold : goal.returns-in-Err-clause-untold
