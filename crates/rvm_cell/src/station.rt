@@ -50,7 +50,7 @@ pub struct Station<L: Hosting, W: Write + Drop> {
 }
 
 impl<L: Hosting, W: Write + Drop> Station<L, W> {
-    /// The station of host `id` of a world of so many hosts, with no connection. Fails if memory runs out.
+    /// The station of host `id` in a world of `hosts` hosts, with no connection. Fails if memory runs out.
     pub fn new(alloc: Global, id: u8, hosts: u8) -> Result<Station<L, W>, AllocError> {
         Ok(Station {
             id,

@@ -42,7 +42,7 @@ earlier entries ys turn count at = record {
   count_is = at.count_is;
 }
 
--- there are at least so many entries
+-- there are at least this many entries
 pub end_within : (entries : List PlainEntry) (turn count : ℕ) → EndWithTurn entries turn count → count ≤ length entries
 end_within entries turn count at =
     let all = ap length at.entries_are ∙ length-append at.before (at.last ∷ at.rest) in
@@ -172,7 +172,7 @@ more_searched items i turn left count x p so less is passed = record {
   some = (let few = passed.fewer in omega (arith, few));
 }
 
--- what is behind the first items
+-- the items after the first ones
 split_at : (items : List (List PlainEntry)) (k : ℕ) → all_of items ≡ all_of (take k items) ++ all_of (drop k items)
 split_at items k = ap all_of (sym (take-append-drop k items)) ∙ all_append (take k items) (drop k items)
 
@@ -185,7 +185,7 @@ found_item items i turn left count more x so less is at =
     (earlier (all_of (take i items) ++ x) (all_of (drop (i + 1) items)) turn (count + more)
     (later (all_of (take i items)) x turn left count more (count + more) so.turns_are so.count_is refl at)))
 
--- so many entries are there
+-- there are this many entries
 pub found_within : (items : List (List PlainEntry)) (i turn left count more : ℕ) (x : List PlainEntry)
     → Searched items i turn left count → i < length items → get_or items i x ≡ x → EndWithTurn x left more
     → count + more ≤ length (all_of items)
