@@ -51,17 +51,18 @@ const REPORT_SIZE: usize = 256;
 
 /// Does what the words of a command line ask for. The first word is the program's name. Returns the status: 0 if it was
 /// done; 1 if it was refused, or if a write to `errors` failed, so that the report of how it ended is missing; 2 for a
-/// fault of the command line, which writes nothing to `output`; 3 if `tell` lost an answer of a host, or if what was cut off from journals may explain that they have no order. If the status of
-/// a run tells how it ended (`StatusOf`), it may be any number; with a verdict, that of a move may also be 3 or 4, and
-/// that of a host 3. `input` is standard input, `output` and `errors` are standard output and standard error. The
-/// memory of each guest is an `M`. A guest moves by threads, which may wait for one another, and over TCP. The files
-/// are those of the runtime. So is the standard input of `host --input -` and of `run --input -`, which a thread of its own
-/// reads until the process ends.
+/// fault of the command line, which writes nothing to `output`; 3 if `tell` lost an answer of a host, or if what was cut
+/// off from journals may explain that they have no order. If the status of a run tells how it ended (`StatusOf`), it may
+/// be any number; with a verdict, that of a move may also be 3 or 4, and that of a host 3. `input` is standard input,
+/// `output` and `errors` are standard output and standard error. The memory of each guest is an `M`. A guest moves by
+/// threads, which may wait for one another, and over TCP. The files are those of the runtime. So is the standard input of
+/// `host --input -` and of `run --input -`, which a thread of its own reads until the process ends.
 ///
-/// At most one byte more is read of a file than it may have. An image of plain bytes may have as many bytes as RAM;
-/// with more it is refused with `OutsideRam`. An ELF file, what `dis` lists, an assembly text and each other file of
-/// `host` may have `MAX_FILE_SIZE` bytes, and a journal `MAX_JOURNAL_SIZE`; with more they are refused with `TooLong`. `run` reads at most one byte for
-/// the console for each turn; it refuses with `TooLong` if these would be more than `MAX_FILE_SIZE` bytes.
+/// At most one byte more is read of a file than it may have. An image of plain bytes may have as many bytes as RAM; with
+/// more it is refused with `OutsideRam`. An ELF file, what `dis` lists, an assembly text and each other file of `host`
+/// may have `MAX_FILE_SIZE` bytes, and a journal `MAX_JOURNAL_SIZE`; with more they are refused with `TooLong`. `run`
+/// reads at most one byte for the console for each turn; it refuses with `TooLong` if these would be more than
+/// `MAX_FILE_SIZE` bytes.
 pub fn perform<
     M: PagedMemory + Drop + Send + 'static,
     Rt: System + Net + Threads + Wait + 'static,
