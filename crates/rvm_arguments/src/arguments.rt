@@ -216,6 +216,9 @@ pub struct MoveArguments<'a> {
     pub factor: u32,
     /// The version of the streams, 1 to 3.
     pub stream: u32,
+    /// The most megabytes of pages, each of 1000000 bytes, that `move` copies in a second while the guest runs, 1 to 1000000,
+    /// if there is a limit; of `audit`, which has no such option, none.
+    pub bandwidth: Option<u32>,
     /// Whether the status of `move` tells how the guest's turns ended; of `audit`, which has no such option, false.
     pub verdict: bool,
     ghost steps_allowed: { (1 ≤ steps) × (steps ≤ 100000) },
@@ -223,6 +226,7 @@ pub struct MoveArguments<'a> {
     ghost left_allowed: { (1 ≤ left) × (left ≤ 4096) },
     ghost factor_allowed: { (1 ≤ factor) × (factor ≤ 100) },
     ghost stream_allowed: { (1 ≤ stream) × (stream ≤ 3) },
+    ghost bandwidth_allowed: { ForSome bandwidth (λ b. (1 ≤ b) × (b ≤ 1000000)) },
 }
 
 /// The arguments of `rvmove host`.

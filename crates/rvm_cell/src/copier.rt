@@ -10,6 +10,7 @@ use crate::copying::Copying;
 use crate::end::{WorkEnd, Worked};
 use crate::gate::{Gate, Watch, Worker};
 use crate::next::{LONG_PAUSE, Next, SHORT_PAUSE, after_copy, is_gone, says_no_move};
+use crate::pace::CopyPace;
 use crate::telling::Side;
 use rvm_link::{Link, SendError};
 use rvm_mem::PagedMemory;
@@ -24,6 +25,15 @@ use std::time::{Clock, Duration};
 /// The number of consecutive waits after which the copier gives up the move; also how often at most it asks for the
 /// last frame again, and how often it tries to give up the move when memory runs out.
 const TRIES: u32 = 1000;
+
+/// How a copier copies a guest.
+#[derive(Clone, Copy, Debug, PartialEq, Eq)]
+pub struct CopyPlan {
+    pub policy: Policy,
+    /// The most megabytes of pages, each of 1000000 bytes, that are copied in a second while the guest runs, if there is a
+    /// limit.
+    pub bandwidth: Option<u32>,
+}
 
 /// Sleeps for this many milliseconds.
 fn pause<R: Clock>(rt: &R, millis: u32) {
@@ -41,14 +51,15 @@ pub fn copier_worker<L: Seating, M: PagedMemory + Drop, K: Link + Drop, G: Gate,
     seat: Seat<L>,
     gate: &G,
     to: u8,
-    policy: Policy,
+    plan: CopyPlan,
 ) -> Worked<L>
     ensures work { IsWork seat result.seat (all_of result.receipts.items) }
-    ensures copied { IsCopied to policy result.end (all_of result.receipts.items) }
+    ensures copied { IsCopied to plan.policy result.end (all_of result.receipts.items) }
 {
-    let mut copying = Copying::new(alloc, seat, to, policy);
+    let mut copying = Copying::new(alloc, seat, to, plan.policy);
     let mut watch = Watch::new(gate, Worker::Copier);
-    let end = make_calls(rt, alloc, side, &mut copying, &mut watch);
+    let mut pace = CopyPace::new(plan.bandwidth);
+    let end = make_calls(rt, alloc, side, &mut copying, &mut watch, &mut pace);
     if end.is_short_of_room() {
         side.outgoing.close(rt);
     }
@@ -63,13 +74,14 @@ fn make_calls<L: Seating, M: PagedMemory + Drop, K: Link + Drop, G: Gate, R: Wai
     side: &Side<'_, L, M, K>,
     copying: &mut Copying<L>,
     watch: &mut Watch<'_, G>,
+    pace: &mut CopyPace,
 ) -> WorkEnd
     requires { copying.old.last ≡ None }
     ensures same { copying.new ≡ record copying.old { last = copying.new.last; refused = copying.new.refused } }
     ensures end { IsCopierEnd result copying.new.last }
     ensures out { result ≡ WorkEnd.OutOfMemory → HasTried copying.new.last copying.new.refused }
 {
-    match copy_guest(rt, alloc, side, copying, watch) {
+    match copy_guest(rt, alloc, side, copying, watch, pace) {
         Ok(Next::Done) => WorkEnd::Done,
         Ok(Next::Resend) => resend(rt, alloc, side, copying, watch),
         Ok(_) => give_up(rt, alloc, side, copying, watch),
@@ -85,6 +97,7 @@ fn copy_guest<L: Seating, M: PagedMemory + Drop, K: Link + Drop, G: Gate, R: Wai
     side: &Side<'_, L, M, K>,
     copying: &mut Copying<L>,
     watch: &mut Watch<'_, G>,
+    pace: &mut CopyPace,
 ) -> Result<Next, WorkEnd>
     requires { copying.old.last ≡ None }
     ensures same { copying.new ≡ record copying.old { last = copying.new.last; refused = copying.new.refused } }
@@ -93,19 +106,21 @@ fn copy_guest<L: Seating, M: PagedMemory + Drop, K: Link + Drop, G: Gate, R: Wai
 {
     let told = copying.begin(rt, alloc, side, watch)?;
     match told.sent {
-        Ok(()) => copy_until(rt, alloc, side, copying, watch),
+        Ok(()) => copy_until(rt, alloc, side, copying, watch, pace),
         Err(SendError::OutOfMemory) => Err(WorkEnd::OutOfMemory),
         Err(_) => Ok(Next::GiveUp),
     }
 }
 
-/// Copies until the next thing to do is another one. After `TRIES` consecutive pauses, it is to give up the move.
+/// Copies at this pace until the next thing to do is another one. After `TRIES` consecutive pauses, it is to give up the
+/// move.
 fn copy_until<L: Seating, M: PagedMemory + Drop, K: Link + Drop, G: Gate, R: Wait + Clock>(
     rt: &R,
     alloc: Global,
     side: &Side<'_, L, M, K>,
     copying: &mut Copying<L>,
     watch: &mut Watch<'_, G>,
+    pace: &mut CopyPace,
 ) -> Result<Next, WorkEnd>
     requires { IsSomeAnd copying.old.last (λ x. copies_on x ≡ true) }
     ensures same { copying.new ≡ record copying.old { last = copying.new.last; refused = copying.new.refused } }
@@ -114,7 +129,7 @@ fn copy_until<L: Seating, M: PagedMemory + Drop, K: Link + Drop, G: Gate, R: Wai
 {
     let mut pauses = 0;
     for _copy in 0..u64::MAX {
-        match copy(rt, alloc, side, copying, watch)? {
+        match copy(rt, alloc, side, copying, watch, pace)? {
             Next::Copy => pauses = 0,
             Next::Wait(millis) => {
                 pause(rt, millis);
@@ -129,14 +144,15 @@ fn copy_until<L: Seating, M: PagedMemory + Drop, K: Link + Drop, G: Gate, R: Wai
     Ok(Next::GiveUp)
 }
 
-/// Asks for one copy. Returns what the copier does next.
+/// Asks for one copy, and keeps the pace. Returns what the copier does next.
 #[tactic(auto, using(crate::proofs::Copiers::copy_asked, crate::proofs::Copiers::next_told))]
-fn copy<L: Seating, M: PagedMemory + Drop, K: Link + Drop, G: Gate, R: Wait>(
+fn copy<L: Seating, M: PagedMemory + Drop, K: Link + Drop, G: Gate, R: Wait + Clock>(
     rt: &R,
     alloc: Global,
     side: &Side<'_, L, M, K>,
     copying: &mut Copying<L>,
     watch: &mut Watch<'_, G>,
+    pace: &mut CopyPace,
 ) -> Result<Next, WorkEnd>
     requires { IsSomeAnd copying.old.last (λ x. copies_on x ≡ true) }
     ensures same { copying.new ≡ record copying.old { last = copying.new.last; refused = copying.new.refused } }
@@ -145,7 +161,10 @@ fn copy<L: Seating, M: PagedMemory + Drop, K: Link + Drop, G: Gate, R: Wait>(
 {
     let told = copying.ask(rt, alloc, side, watch, Command::Copy)?;
     match told.sent {
-        Ok(()) => Ok(after_copy(&told.reply)),
+        Ok(()) => {
+            pace.keep(rt, &told.reply);
+            Ok(after_copy(&told.reply))
+        }
         Err(SendError::OutOfMemory) => Err(WorkEnd::OutOfMemory),
         Err(_) => Ok(Next::GiveUp),
     }

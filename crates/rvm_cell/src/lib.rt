@@ -9,9 +9,9 @@
 //! Stands on `rvm_recorder`, `rvm_host` and `rvm_link`. It must not know sockets, files or operators, how workers are
 //! started, or what becomes of their receipts.
 //!
-//! To be read in this order: `task`, `gate`, `end`, `steps`, `heap`, `caller`, `telling`, `next`, `copying`, `copier`,
-//! `stream`, `hearing`, `receiver`; `slices`, `pair`, `harts`; `origin`, `reached`, `turns`, `copies`, `cell`,
-//! `access`; `news`, `station`, `host_hearing`, `input`, `console`, `course`, `pace`, `host_harts`, `mover`.
+//! To be read in this order: `task`, `gate`, `end`, `steps`, `heap`, `caller`, `telling`, `next`, `course`, `pace`,
+//! `copying`, `copier`, `stream`, `hearing`, `receiver`; `slices`, `pair`, `harts`; `origin`, `reached`, `turns`, `copies`,
+//! `cell`, `access`; `news`, `station`, `host_hearing`, `input`, `console`, `host_harts`, `mover`.
 #![tactic(auto)]
 
 mod access;
@@ -49,7 +49,7 @@ mod turns;
 pub use access::{Access, CellAccess};
 pub use caller::Caller;
 pub use cell::HostCell;
-pub use copier::copier_worker;
+pub use copier::{CopyPlan, copier_worker};
 pub use course::{Figures, Progress, ProgressReporter};
 pub use end::{WorkEnd, Worked};
 pub use gate::{Gate, Watch, Worker};

@@ -195,7 +195,8 @@ pub record IsScript (rows : List Row) (asked : ScriptArguments) : Type 0 where
   pub hosts : IsNumber (first_of (codes "hosts") rows) asked.hosts
   pub stream : IsOptionalNumber (first_of (codes "stream") rows) asked.stream
 
--- a guest, its turns, when it is paused, the version of the streams, and whether the status tells how the turns ended
+-- a guest, its turns, when it is paused, the version of the streams, how fast its pages are copied, and whether the status
+-- tells how the turns ended
 pub record IsMove (rows : List Row) (asked : MoveArguments) : Type 0 where
   pub guest : IsGuest rows asked.guest
   pub steps : IsNumber (first_of (codes "steps") rows) asked.steps
@@ -203,6 +204,7 @@ pub record IsMove (rows : List Row) (asked : MoveArguments) : Type 0 where
   pub left : IsNumber (first_of (codes "left") rows) asked.left
   pub factor : IsNumber (first_of (codes "factor") rows) asked.factor
   pub stream : IsNumber (first_of (codes "stream") rows) asked.stream
+  pub bandwidth : IsOptionalNumber (first_of (codes "bandwidth") rows) asked.bandwidth
   pub verdict : IsFlag (one_of (codes "verdict") rows) asked.verdict
 
 -- no image was named, and no word says anything of a guest

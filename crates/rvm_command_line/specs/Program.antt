@@ -72,6 +72,10 @@ with_move command =
     (with_policy (with_rule (with_guest command) (number (codes "steps") (codes "10000") 100000)))
     (number (codes "stream") (codes "1") 3)
 
+-- a command that takes the bandwidth of a move
+abbrev pub with_bandwidth : App → App
+with_bandwidth command = with_rule command (bounded (codes "bandwidth") 1 1000000)
+
 -- a command that takes the word by which its status tells how the guest ended
 abbrev pub with_verdict : App → App
 with_verdict command = with_rule command (flag (codes "verdict"))
@@ -143,7 +147,7 @@ script = with_rule (with_world (new_app (codes "script"))) (needed (codes "scrip
 
 -- the command that moves a guest to another host while it runs
 abbrev pub move : App
-move = with_verdict (with_move (new_app (codes "move")))
+move = with_verdict (with_bandwidth (with_move (new_app (codes "move"))))
 
 -- the command that makes such a move and writes an order of both hosts' journals
 abbrev pub audit : App
@@ -162,11 +166,10 @@ with_addresses command =
 abbrev pub with_hosting : App → App
 with_hosting command =
     with_rule
-    (with_rule
+    (with_bandwidth
     (with_rule
     (with_rule (with_rule command (option (codes "input"))) (number (codes "patience") (codes "10000") 1000000000))
-    (bounded (codes "rate") 1 1000000000))
-    (bounded (codes "bandwidth") 1 1000000))
+    (bounded (codes "rate") 1 1000000000)))
     (flag (codes "until-halt"))
 
 -- a command that takes the name of a host, and perhaps the image of a guest

@@ -774,7 +774,8 @@ fn move_command<'a>(alloc: Global) -> Made<'a>
         "Moves a guest from one host to another while it runs, and writes what it sends",
         MOVE_HELP,
     );
-    judged_command(moving_command(command, alloc), alloc)
+    let command = with_arg(moving_command(command, alloc), bandwidth_option(alloc));
+    judged_command(command, alloc)
 }
 
 /// The command `audit`, with the words that it takes.

@@ -668,6 +668,9 @@ fn read_move<'a>(words: &ArgMatches<'a>) -> Result<MoveArguments<'a>, &'static s
     let Some(stream) = number(words, "stream", 1, MAX_STREAM) else {
         return Err("--stream takes a decimal number from 1 to 3");
     };
+    let Some(bandwidth) = optional_number(words, "bandwidth", 1, MAX_BANDWIDTH) else {
+        return Err("--bandwidth takes a decimal number from 1 to 1000000");
+    };
     Ok(MoveArguments {
         guest,
         steps,
@@ -675,6 +678,7 @@ fn read_move<'a>(words: &ArgMatches<'a>) -> Result<MoveArguments<'a>, &'static s
         left,
         factor,
         stream,
+        bandwidth,
         verdict: flag(words, "verdict"),
     })
 }
@@ -895,7 +899,7 @@ fn read_journals<'a>(names: &[&'a str]) -> Result<ArrayVec<&'a str, 8>, &'static
     let mut journals = ArrayVec::new();
     match journals.try_extend_from_slice(names) {
         Ok(()) => Ok(journals),
-        Err(_) => Err("there are 1 to 8 JOURNALs"),
+        Err(_) => Err("1 to 8 JOURNALs are taken"),
     }
 }
 

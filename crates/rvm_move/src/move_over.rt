@@ -94,6 +94,7 @@ pub fn plan_of(arguments: &MoveArguments) -> Plan
             min_left: arguments.left,
             factor: arguments.factor,
         },
+        bandwidth: arguments.bandwidth,
         version: arguments.stream,
     }
 }

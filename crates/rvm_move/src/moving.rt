@@ -11,7 +11,7 @@ use crate::ends::Ends;
 use crate::hosts::{HostEnd, Links, OpenHost, Returned, close_host, open_host};
 use crate::plan::Plan;
 use crate::threads::{Carried, Taken, TakenAtA, TakenAtB, work};
-use rvm_cell::{Gate, HartsWorked};
+use rvm_cell::{CopyPlan, Gate, HartsWorked};
 use rvm_link::Link;
 use rvm_mem::PagedMemory;
 use rvm_recorder::{Recorded, Seat, Seating};
@@ -154,7 +154,10 @@ fn seat_and_work<
             copier,
             receiver: receiver_a,
             receiving: from_b,
-            policy: plan.policy,
+            plan: CopyPlan {
+                policy: plan.policy,
+                bandwidth: plan.bandwidth,
+            },
         },
         at_b: TakenAtB {
             receiver: receiver_b,

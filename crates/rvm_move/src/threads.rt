@@ -13,12 +13,11 @@ use crate::beside::beside;
 use crate::plan::Plan;
 use crate::turns::Turns;
 use rvm_cell::{
-    Gate, HartsWorked, Hosts, Side, WorkEnd, Worked, Worker, copier_worker, receiver_worker,
-    take_back,
+    CopyPlan, Gate, HartsWorked, Hosts, Side, WorkEnd, Worked, Worker, copier_worker,
+    receiver_worker, take_back,
 };
 use rvm_link::{Link, Outgoing};
 use rvm_mem::PagedMemory;
-use rvm_precopy::Policy;
 use rvm_recorder::{Seat, Seating, SharedHost};
 use std::alloc::Global;
 use std::io::Write;
@@ -46,7 +45,7 @@ pub(crate) struct TakenAtA<L: Seating, K: Link + Drop> {
     pub(crate) copier: Seat<L>,
     pub(crate) receiver: Seat<L>,
     pub(crate) receiving: K,
-    pub(crate) policy: Policy,
+    pub(crate) plan: CopyPlan,
 }
 
 /// What the worker at host B takes with it.
@@ -79,11 +78,11 @@ fn copy<L: Seating, M: PagedMemory + Drop, K: Link + Drop, G: Gate, R: Wait + Cl
     outgoing: &Outgoing<K>,
     seat: Seat<L>,
     gate: &G,
-    policy: Policy,
+    plan: CopyPlan,
 ) -> Worked<L>
-    ensures { IsCopied 1 policy result.end (all_of result.receipts.items) }
+    ensures { IsCopied 1 plan.policy result.end (all_of result.receipts.items) }
 {
-    copier_worker(rt, alloc, &Side { host, outgoing }, seat, gate, B, policy)
+    copier_worker(rt, alloc, &Side { host, outgoing }, seat, gate, B, plan)
 }
 
 /// Hears the other side. The link is dropped when the receiver ends, so that whoever sends on it need not wait.
@@ -122,10 +121,10 @@ fn copy_and_hear<
     outgoing: &Outgoing<K>,
     seats: (Seat<L>, Seat<L>),
     gate: &G,
-    policy: Policy,
+    plan: CopyPlan,
     receiving: K,
 ) -> (Worked<L>, Worked<L>)
-    ensures copier { IsCopied 1 policy result.0.end (all_of result.0.receipts.items) }
+    ensures copier { IsCopied 1 plan.policy result.0.end (all_of result.0.receipts.items) }
     ensures receiver { IsReceived 1 0 (K.remaining receiving) result.1.end (all_of result.1.receipts.items) }
 {
     let (copier, receiver) = seats;
@@ -148,8 +147,8 @@ fn copy_and_hear<
             )
         },
         move || -> Worked<L>
-            ensures { IsCopied 1 policy result.end (all_of result.receipts.items) }
-        { copy(rt, alloc, host, outgoing, copier, gate, policy) },
+            ensures { IsCopied 1 plan.policy result.end (all_of result.receipts.items) }
+        { copy(rt, alloc, host, outgoing, copier, gate, plan) },
     );
     (copied, heard)
 }
@@ -169,17 +168,17 @@ fn work_at_a<
     taken: TakenAtA<L, K>,
     gate: &G,
 ) -> (Worked<L>, Worked<L>)
-    ensures copier { IsCopied 1 taken.policy result.0.end (all_of result.0.receipts.items) }
+    ensures copier { IsCopied 1 taken.plan.policy result.0.end (all_of result.0.receipts.items) }
     ensures receiver { IsReceived 1 0 (K.remaining taken.receiving) result.1.end (all_of result.1.receipts.items) }
 {
     let TakenAtA {
         copier,
         receiver,
         receiving,
-        policy,
+        plan,
     } = taken;
     let seats = (copier, receiver);
-    let worked = copy_and_hear(rt, alloc, host, outgoing, seats, gate, policy, receiving);
+    let worked = copy_and_hear(rt, alloc, host, outgoing, seats, gate, plan, receiving);
     outgoing.close(rt);
     worked
 }
@@ -257,7 +256,7 @@ fn carry<
     taken: Taken<L, N, K>,
     gate: &G,
 ) -> Carried<L, N>
-    ensures { AreCarried taken.at_a.policy (K.remaining taken.at_a.receiving) (K.remaining taken.at_b.receiving)
+    ensures { AreCarried taken.at_a.plan.policy (K.remaining taken.at_a.receiving) (K.remaining taken.at_b.receiving)
         result.copier.end result.receiver_a.end result.receiver_b.end (all_of result.copier.receipts.items)
         (all_of result.receiver_a.receipts.items) (all_of result.receiver_b.receipts.items) }
 {
@@ -268,7 +267,7 @@ fn carry<
     let ((copier, receiver_a), receiver_b) = thread::join(
         rt,
         move || -> (Worked<L>, Worked<L>)
-            ensures copier { IsCopied 1 at_a.policy result.0.end (all_of result.0.receipts.items) }
+            ensures copier { IsCopied 1 at_a.plan.policy result.0.end (all_of result.0.receipts.items) }
             ensures receiver { IsReceived 1 0 (K.remaining at_a.receiving) result.1.end (all_of result.1.receipts.items) }
         {
             begun.store(true, Ordering::Relaxed);
@@ -309,7 +308,7 @@ pub(crate) fn work<
     ensures run { IsRun (all_of result.1.receipts.0.items) (all_of result.1.receipts.1.items) (W.contents writer.old)
         (W.contents writer.new) (result.1.end ≢ Err LinkFault) plan.now.harts plan.now.steps result.1.end }
     ensures one { AreOfOne (all_of result.1.receipts.0.items) × AreOfOne (all_of result.1.receipts.1.items) }
-    ensures carried { AreCarried taken.at_a.policy (K.remaining taken.at_a.receiving) (K.remaining taken.at_b.receiving)
+    ensures carried { AreCarried taken.at_a.plan.policy (K.remaining taken.at_a.receiving) (K.remaining taken.at_b.receiving)
         result.0.copier.end result.0.receiver_a.end result.0.receiver_b.end (all_of result.0.copier.receipts.items)
         (all_of result.0.receiver_a.receipts.items) (all_of result.0.receiver_b.receipts.items) }
 {
@@ -328,7 +327,7 @@ pub(crate) fn work<
     let (carried, (turned, writer)) = beside(
         rt,
         move || -> Carried<L, N>
-            ensures { AreCarried taken.at_a.policy (K.remaining taken.at_a.receiving)
+            ensures { AreCarried taken.at_a.plan.policy (K.remaining taken.at_a.receiving)
                 (K.remaining taken.at_b.receiving) result.copier.end result.receiver_a.end result.receiver_b.end
                 (all_of result.copier.receipts.items) (all_of result.receiver_a.receipts.items)
                 (all_of result.receiver_b.receipts.items) }

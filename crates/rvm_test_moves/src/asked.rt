@@ -56,6 +56,7 @@ pub fn to_move(steps: u32, stream: u32) -> MoveArguments<'static>
         left: 1,
         factor: 3,
         stream,
+        bandwidth: None,
         verdict: false,
     }
 }

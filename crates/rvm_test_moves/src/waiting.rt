@@ -3,7 +3,7 @@
 ghost use Rattle.std.specs.Prelude.{◌≡◌, []};
 
 use crate::asked::{LOOP, STEPS, to_move};
-use rvm_cell::{Side, WorkEnd, copier_worker};
+use rvm_cell::{CopyPlan, Side, WorkEnd, copier_worker};
 use rvm_frame::Frame;
 use rvm_link::{Link, LinkRead, Outgoing};
 use rvm_message::{HostEvent, Shared};
@@ -44,12 +44,14 @@ impl Link for Silent {
 }
 
 /// When the other host answers: it accepts the move at this wait of one millisecond, and is ready at this wait of ten,
-/// both counted from 1; at 0 it does not. And how often something can be sent to it.
+/// both counted from 1; at 0 it does not. And how often something can be sent to it, and how many megabytes of pages may be
+/// copied in a second.
 #[derive(Clone, Copy)]
 struct Answers {
     accepts: u32,
     is_ready: u32,
     sends: u32,
+    bandwidth: Option<u32>,
 }
 
 /// A clock that does not wait, but counts the waits of one millisecond, of ten, and all others, and at which the other
@@ -123,26 +125,34 @@ struct CopierEnd {
 
 /// Copies a guest to hosts that answer in several ways, and prints how the copier waits and ends.
 pub fn wait_for_answers<R: AllocGlobal + Print + Wait>(rt: &R) -> anyhow::Result<()> {
-    print_waits(rt, "nobody answers", 0, 0, u32::MAX)?;
-    print_waits(rt, "accepted at the 999th wait", 999, 0, u32::MAX)?;
-    print_waits(rt, "ready, and Go is not answered", 1, 1, u32::MAX)?;
-    print_waits(rt, "an offer that cannot be sent", 1, 1, 1)?;
-    print_waits(rt, "a page that cannot be sent", 1, 1, 3)
+    print_waits(rt, "nobody answers", answers(0, 0, u32::MAX))?;
+    print_waits(rt, "accepted at the 999th wait", answers(999, 0, u32::MAX))?;
+    print_waits(rt, "ready, and Go is not answered", answers(1, 1, u32::MAX))?;
+    print_waits(rt, "an offer that cannot be sent", answers(1, 1, 1))?;
+    print_waits(rt, "a page that cannot be sent", answers(1, 1, 3))?;
+    let slow = Answers {
+        bandwidth: Some(1),
+        ..answers(1, 1, u32::MAX)
+    };
+    print_waits(rt, "ready, and a megabyte a second", slow)
 }
 
-/// Prints how a copier waits whose move is accepted and ready at these waits, and which can send `sends` times.
-fn print_waits<R: AllocGlobal + Print + Wait>(
-    rt: &R,
-    name: &str,
-    accepts: u32,
-    is_ready: u32,
-    sends: u32,
-) -> anyhow::Result<()> {
-    let answers = Answers {
+/// The move is accepted and ready at these waits, and something can be sent `sends` times.
+fn answers(accepts: u32, is_ready: u32, sends: u32) -> Answers {
+    Answers {
         accepts,
         is_ready,
         sends,
-    };
+        bandwidth: None,
+    }
+}
+
+/// Prints how a copier waits that is answered so.
+fn print_waits<R: AllocGlobal + Print + Wait>(
+    rt: &R,
+    name: &str,
+    answers: Answers,
+) -> anyhow::Result<()> {
     match waited(rt, answers) {
         Some(
             CopierEnd {
@@ -243,6 +253,9 @@ fn copied_by<L: Seating, R: Wait>(
         host,
         outgoing: &outgoing,
     };
-    let policy = plan_of(&to_move(STEPS, 1)).policy;
-    copier_worker(clock, clock.alloc, &side, seat, &OpenGate, 1, policy).end
+    let plan = CopyPlan {
+        policy: plan_of(&to_move(STEPS, 1)).policy,
+        bandwidth: clock.answers.bandwidth,
+    };
+    copier_worker(clock, clock.alloc, &side, seat, &OpenGate, 1, plan).end
 }
