@@ -10,7 +10,7 @@
   each second step, in 20 moves;
 - the guest's speed while 4096 filled pages are copied: the guest fills a pipe that nobody reads, so that it waits, and
   then makes turns in silence; the pipe is read while the target still makes its RAM, and no page is copied, or in the
-  midst of the copies;
+  midst of the copies, with each of some bandwidths;
 - the time of a move of 4096 pages that nobody writes, all of them zeros or none, in each version, best of some runs that
   alternate with those it is compared with: a run of the same image, that is to load it; and a plain copy of as many
   pages over a loopback socket in C (`pages.c`), whose target throws them away, puts them into memory, or also keeps them
@@ -198,10 +198,11 @@ def waiting_in(pipe):
     return struct.unpack("i", fcntl.ioctl(pipe, termios.FIONREAD, b"\0" * 4))[0]
 
 
-def silent_turns(image, delay):
+def silent_turns(image, delay, bandwidth):
     """The turns a second of a guest that is woken so many seconds after it filled its pipe. What it still sends then
     counts as time, so that this is a little less than its speed."""
     words = [PROGRAM, "move", image, "--raw", "--pages", str(PAGES), "--steps", str(MORE)]
+    words += ["--bandwidth", str(bandwidth)] if bandwidth else []
     process = subprocess.Popen(words, stdout=subprocess.PIPE, stderr=subprocess.PIPE, pipesize=4096)
     pipe, came = process.stdout.fileno(), 0
     while waiting_in(pipe) < 4096 - 256:
@@ -221,14 +222,16 @@ def silent_turns(image, delay):
 
 
 def measure_speed(times=20):
-    """Prints the guest's speed while no page is copied, and while pages are."""
+    """Prints the guest's speed while no page is copied, and while pages are, with each of some bandwidths."""
     image = os.path.join(BUILD, "silent.bin")
     code = bytes_of(assembled("silent", SENDS_THEN_SILENT))
     with open(image, "wb") as file:
         file.write(code + b"\xff" * (PAGES * 4096 - len(code)))
-    for name, delay in (("no page is copied", 0.001), *((f"pages are copied, {d} ms later", d / 1000) for d in (12, 15, 18, 21))):
-        rates = sorted(silent_turns(image, delay) / 1e6 for _ in range(times))
-        print(f"million turns a second, {name}: median {statistics.median(rates):.1f}, {rates[0]:.1f} to {rates[-1]:.1f}", flush=True)
+    for bandwidth in (None, 200, 100, 50):
+        print(f"bandwidth {bandwidth}", flush=True)
+        for name, delay in (("no page is copied", 0.001), *((f"pages are copied, {d} ms later", d / 1000) for d in (12, 15, 18, 21))):
+            rates = sorted(silent_turns(image, delay, bandwidth) / 1e6 for _ in range(times))
+            print(f"    million turns a second, {name}: median {statistics.median(rates):.1f}, {rates[0]:.1f} to {rates[-1]:.1f}", flush=True)
 
 
 def copied(mode):
