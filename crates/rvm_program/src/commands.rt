@@ -488,7 +488,7 @@ fn read_host<'a, Rt: System + Threads + Wait + 'static, F: NamedFiles>(
         peers: read_told(files, rt.alloc(), arguments.peers)?,
         image,
         secret,
-        input: console_input(rt, files, arguments.input)?,
+        input: console_input(rt, files, arguments.input, arguments.peers)?,
     };
     for bytes in [
         read.peers.as_slice(),
@@ -579,18 +579,19 @@ fn read_live<'a, Rt: System + Threads + Wait + 'static, F: NamedFiles>(
 {
     let image = read_told_image(files, rt.alloc(), &arguments.guest)?;
     keep_from_journal(files, rt.alloc(), arguments.journal, &image)?;
-    let input = console_input(rt, files, arguments.input)?;
+    let input = console_input(rt, files, arguments.input, arguments.guest.image)?;
     Ok(LiveFiles { image, input })
 }
 
 /// The input of the guest's console: the bytes of a file, or those of standard input as they come, or none if `input`
-/// is `None`.
+/// is `None`. Fails with the name of the file, or with `name` if there is none, and the refusal.
 fn console_input<'a, Rt: System + Threads + Wait + 'static, F: NamedFiles>(
     rt: &Rt,
     files: &F,
     input: Option<&'a str>,
+    name: &'a str,
 ) -> Result<Arc<InputQueue>, (&'a str, Refusal)> {
-    let path = input.unwrap_or(STANDARD_INPUT);
+    let path = input.unwrap_or(name);
     let queue = match input {
         None => queued(rt, &[]),
         Some(STANDARD_INPUT) => live_input(rt),
