@@ -42,6 +42,7 @@ fn time_of(count: u64, rate: u32) -> Duration {
 
 /// The pace of a copier: while the guest runs, its pages are copied at a rate, if there is a limit. Once it stands still,
 /// the last of them are copied as fast as they can be.
+#[derive(Clone, Copy)]
 pub(crate) struct CopyPace {
     /// The most pages in a second, if there is a limit.
     rate: Option<u32>,
@@ -81,7 +82,8 @@ impl CopyPace {
     }
 }
 
-/// How many pages this many megabytes have, each of 1000000 bytes.
+/// How many pages this many megabytes have, each of 1000000 bytes, up to 4294967295.
 fn pages_of(megabytes: u32) -> u32 {
-    (u64::from(megabytes) * 1_000_000 / PAGE) as u32
+    let pages = u64::from(megabytes) * 1_000_000 / PAGE;
+    pages.min(u64::from(u32::MAX)) as u32
 }

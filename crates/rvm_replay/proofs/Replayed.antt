@@ -12,6 +12,7 @@ use Rattle.rvm_journal.specs.Headers.{IsRanged, header_at}
 use Rattle.rvm_journal.specs.Replaying.{AreFirstTold, IsReplayedTo, Records, events_in}
 use Rattle.rvm_message.specs.declared.event.HostEvent.{HostEvent}
 use Rattle.rvm_recorder.specs.History.{Recording, count_of}
+use Rattle.rvm_recorder.specs.Replay.{IsReplay as AreAnswers}
 use Rattle.rvm_refusal.specs.declared.refusal.Refusal.TheVariants.{LinkFault}
 use Rattle.rvm_replay.specs.declared.file.FileFault.{FileFault}
 use Rattle.rvm_replay.specs.declared.file.FileFault.TheVariants as fault
@@ -49,20 +50,23 @@ first_events old new es empty done = done.events ∙ ap (λ xs. events_in xs ++ 
 -- a host began, and did what its journal tells
 pub host_after : (most : Option ℕ) (h : Header) (bytes image : List ℕ) (guest : Option GuestState) (old new : Recording)
     → IsGuestNamed h.guest image guest → old.journal.opening ≡ new_host guest h.host h.hosts 4096 3
-    → old.journal.entries ≡ [] → IsReplayedTo most h.hosts h.host bytes old new → IsHostAfter most h bytes image new
-host_after None h bytes image guest old new named opening empty (t, told, done) = record {
+    → old.journal.entries ≡ [] → IsReplayedTo most h.hosts h.host bytes old new
+    → AreAnswers new.journal.opening new.journal.entries → IsHostAfter most h bytes image new
+host_after None h bytes image guest old new named opening empty (t, told, done) answers = record {
   guest = guest;
   guest_is = named;
   opening = done.opening ∙ opening;
   told = t;
   told_is = told;
   events = first_events old new t.events empty done;
+  answers = answers;
 }
-host_after (Some m) h bytes image guest old new named opening empty (es, first, done) = record {
+host_after (Some m) h bytes image guest old new named opening empty (es, first, done) answers = record {
   guest = guest;
   guest_is = named;
   opening = done.opening ∙ opening;
   first = subst (AreFirstTold m h.hosts h.host bytes) (sym (first_events old new es empty done)) first;
+  answers = answers;
 }
 
 -- the header of the journal was read

@@ -7,6 +7,7 @@ use Rattle.rvm_guest.specs.Valid.{is_valid}
 use Rattle.rvm_command.specs.GuestFiles.{IsGuestIn}
 use Rattle.rvm_host.specs.Hosts.{new_host}
 use Rattle.rvm_recorder.specs.History.{Recording}
+use Rattle.rvm_recorder.specs.Replay.{IsReplay}
 use Rattle.rvm_journal.specs.declared.header.Header.{Header}
 use Rattle.rvm_journal.specs.declared.header.Image.{Image}
 use Rattle.rvm_journal.specs.Headers.{header_at}
@@ -21,7 +22,8 @@ IsGuestNamed (Some i) file None = ⊥
 IsGuestNamed (Some i) file (Some g) =
     (sha256 file ≡ i.digest) × IsGuestIn i.raw i.harts i.pages file g.guest × (is_valid g.guest ≡ true)
 
--- a host began as the header of its journal says, with this guest or none, and did what the journal tells
+-- a host began as the header of its journal says, with this guest or none, and did what the journal tells; each reply and
+-- each frame is the one that the protocol gives at its place
 pub record IsHostOf (header : Header) (bytes image : List ℕ) (r : Recording) : Type 0 where
   pub guest : Option GuestState
   pub guest_is : IsGuestNamed header.guest image guest
@@ -29,6 +31,7 @@ pub record IsHostOf (header : Header) (bytes image : List ℕ) (r : Recording) :
   pub told : Told
   pub told_is : told_in header.hosts header.host bytes ≡ Some told
   pub events : events_in r.journal.entries ≡ told.events
+  pub answers : IsReplay r.journal.opening r.journal.entries
 
 -- a host began so, and did the first events that the journal tells: this many, or all, if it tells no more
 pub record HasDoneFirst (most : ℕ) (header : Header) (bytes image : List ℕ) (r : Recording) : Type 0 where
@@ -36,6 +39,7 @@ pub record HasDoneFirst (most : ℕ) (header : Header) (bytes image : List ℕ) 
   pub guest_is : IsGuestNamed header.guest image guest
   pub opening : r.journal.opening ≡ new_host guest header.host header.hosts 4096 3
   pub first : AreFirstTold most header.hosts header.host bytes (events_in r.journal.entries)
+  pub answers : IsReplay r.journal.opening r.journal.entries
 
 -- a host began so, and did what is wanted of what the journal tells: this many events, or all
 abbrev pub IsHostAfter : (most : Option ℕ) → Header → (bytes image : List ℕ) → Recording → Type 0

@@ -7,6 +7,7 @@ ghost use Rattle.rvm_host.specs.Hosts.{is_sized, new_host};
 ghost use Rattle.rvm_journal.specs.declared.header.Image.{Image};
 ghost use Rattle.rvm_journal.specs.Headers.{IsRanged, IsSized, header_at};
 ghost use Rattle.rvm_journal.specs.Replaying.{IsJournalFault, IsReplayedTo};
+ghost use Rattle.rvm_recorder.specs.Replay.{IsReplay as AreAnswers};
 ghost use Rattle.rvm_replay.specs.declared.file.FileFault.TheVariants.{NoHeader};
 ghost use Rattle.rvm_replay.specs.FileFaults.{IsFileFault, IsGuestFault, IsOtherImage};
 ghost use Rattle.rvm_replay.specs.Journals.{IsGuestNamed, IsHostAfter};
@@ -58,12 +59,22 @@ pub(crate) fn replay_bytes<M: PagedMemory + Drop>(
     let guest = guest_of(alloc, &header.guest, image)?;
     let mut recorded = open_host(alloc, guest, header.hosts, header.host)?;
     match replay_opened(alloc, header, bytes, most, &mut recorded) {
-        Ok(()) => Ok(recorded),
+        Ok(()) => {
+            know_answers(&recorded);
+            Ok(recorded)
+        }
         Err(fault) => {
             drop(recorded);
             Err(FileFault::Journal(fault))
         }
     }
+}
+
+/// Proves that each reply and each frame of a recorded host is the one that the protocol gives at its place.
+fn know_answers<M: PagedMemory + Drop>(recorded: &Recorded<M>)
+    ensures { AreAnswers recorded.now.journal.opening recorded.now.journal.entries }
+{
+    let _items = recorded.journal().items();
 }
 
 /// Has a host that has just begun do what its journal tells: its first `most` events, or all.

@@ -8,7 +8,7 @@ pub returns-in-Ok-clause-host : goal.returns-in-Ok-clause-host
 returns-in-Ok-clause-host g c =
     host_after c.args.most c.args.header.now c.args.bytes.now c.args.image.now c.in_ok-guest.guest c.in_ok-recorded.recorded
     c.replay_opened.new.recorded c.in_ok-guest.ensures.guest c.in_ok-recorded.ensures.opening c.in_ok-recorded.ensures.empty
-    c.in-Ok.ensures.done
+    c.in-Ok.ensures.done c.know_answers.ensures
 
 pub returns-in_err-guest-clause-fault : goal.returns-in_err-guest-clause-fault
 returns-in_err-guest-clause-fault g c range =
