@@ -10,6 +10,7 @@ use Rattle.rvm_recorder.specs.declared.closing.CloseKind.{CloseKind}
 use Rattle.rvm_command.specs.declared.refused.Refused.{Refused}
 use Rattle.rvm_command.specs.Refusals.{IsTold, refused}
 use Rattle.rvm_recorder.specs.History.{History}
+use Rattle.rvm_recorder.specs.Replay.{IsReplay}
 use Rattle.rvm_move.specs.declared.ends.Ends.{Ends}
 use Rattle.rvm_move.specs.Ended.{AreLeft, IsMoveRefusal, IsSound, failure_line}
 use Rattle.rvm_move.specs.Orders.{HasNoOrder, IsNotAudited, IsOrderRefusal, IsUnordered}
@@ -22,14 +23,27 @@ reason_of first second (NoOrder i j) is = inl (refl, (i, (j, is)))
 
 -- the audit found no order
 pub no_order : (first second : History) (why : AuditError) (r : Refused) (before after : Option (List ℕ))
-    → IsAuditError why first second → r ≡ refused (audit_refusal why) → IsTold r before after → IsUnordered first second before after
-no_order first second why r before after is told_is told =
-    record { why = r; reason = subst (IsOrderRefusal first second) (sym told_is) (reason_of first second why is); told = told }
+    → IsReplay first.opening first.entries → IsReplay second.opening second.entries → IsAuditError why first second
+    → r ≡ refused (audit_refusal why) → IsTold r before after → IsUnordered first second before after
+no_order first second why r before after first_replays second_replays is told_is told = record {
+  first_replays = first_replays;
+  second_replays = second_replays;
+  why = r;
+  reason = subst (IsOrderRefusal first second) (sym told_is) (reason_of first second why is);
+  told = told;
+}
 
 -- the order could not be written
-pub no_write : (first second : History) (r : Refused) (before after : Option (List ℕ)) → r ≡ refused refusal.LinkFault
+pub no_write : (first second : History) (r : Refused) (before after : Option (List ℕ))
+    → IsReplay first.opening first.entries → IsReplay second.opening second.entries → r ≡ refused refusal.LinkFault
     → IsTold r before after → IsUnordered first second before after
-no_write first second r before after is told = record { why = r; reason = inr (inl is); told = told }
+no_write first second r before after first_replays second_replays is told = record {
+  first_replays = first_replays;
+  second_replays = second_replays;
+  why = r;
+  reason = inr (inl is);
+  told = told;
+}
 
 -- the move failed
 pub has_failed : (status : ℕ) (ends : Ends) (a b : Option CloseKind) (first second : History) (before after : Option (List ℕ))

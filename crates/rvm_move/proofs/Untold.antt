@@ -24,17 +24,30 @@ abbrev line : Refused → List ℕ
 line r = refused_text r ++ codes "\n"
 
 -- what was to be reported if an order was refused
-unordered : (first second : History) (r : Refused) → IsOrderRefusal first second r → IsUntold (IsUnordered first second)
-unordered first second r why = (line r, record { why = r; reason = why; told = refl })
+unordered : (first second : History) (r : Refused) → IsReplay first.opening first.entries
+    → IsReplay second.opening second.entries → IsOrderRefusal first second r → IsUntold (IsUnordered first second)
+unordered first second r first_replays second_replays why = (
+  line r,
+  record {
+    first_replays = first_replays;
+    second_replays = second_replays;
+    why = r;
+    reason = why;
+    told = refl;
+  },
+)
 
 -- what was to be reported if there is no order
-pub no_order : (first second : History) (why : AuditError) → IsAuditError why first second
-    → IsUntold (IsUnordered first second)
-no_order first second why is = unordered first second (refused (audit_refusal why)) (reason_of first second why is)
+pub no_order : (first second : History) (why : AuditError) → IsReplay first.opening first.entries
+    → IsReplay second.opening second.entries → IsAuditError why first second → IsUntold (IsUnordered first second)
+no_order first second why first_replays second_replays is =
+    unordered first second (refused (audit_refusal why)) first_replays second_replays (reason_of first second why is)
 
 -- what was to be reported if the order could not be written
-pub no_write : (first second : History) → IsUntold (IsUnordered first second)
-no_write first second = unordered first second (refused refusal.LinkFault) (inr (inl refl))
+pub no_write : (first second : History) → IsReplay first.opening first.entries
+    → IsReplay second.opening second.entries → IsUntold (IsUnordered first second)
+no_write first second first_replays second_replays =
+    unordered first second (refused refusal.LinkFault) first_replays second_replays (inr (inl refl))
 
 -- what was to be reported if the move failed, so that it has no order
 pub has_failed : {X F : Type 0} (r : Result X F) (ends : Ends) (a b : Option CloseKind) (first second : History)

@@ -11,6 +11,7 @@ use Rattle.rvm_command.specs.Refusals.{IsTold, refused}
 use Rattle.rvm_core.specs.EventLines.{event_lines}
 use Rattle.rvm_guest.specs.TheGuest.{board}
 use Rattle.rvm_recorder.specs.History.{History}
+use Rattle.rvm_recorder.specs.Replay.{IsReplay}
 use Rattle.rvm_move.specs.declared.ends.Ends.{Ends}
 use Rattle.rvm_move.specs.Ended.{HoldsOfHosts, IsMade, IsNotBegun, IsSound, failure_line}
 use Rattle.rvm_move.specs.Opening.{AreOpened, guest_in}
@@ -47,8 +48,11 @@ IsOrderRefusal first second r =
     ((r ≡ refused refusal.NoOrder) × ((i : ℕ) × ((j : ℕ) × IsDeadEnd first second i j)))
     ⊎ ((r ≡ refused refusal.LinkFault) ⊎ (r ≡ refused refusal.OutOfMemory))
 
--- no order was written, and the reason was reported
+-- no order was written, and the reason was reported; each reply and each frame in the journals is the one that the
+-- protocol gives at its place
 pub record IsUnordered (first second : History) (before after : Option (List ℕ)) : Type 0 where
+  pub first_replays : IsReplay first.opening first.entries
+  pub second_replays : IsReplay second.opening second.entries
   pub why : Refused
   pub reason : IsOrderRefusal first second why
   pub told : IsTold why before after
