@@ -125,20 +125,28 @@ struct CopierEnd {
 
 /// Copies a guest to hosts that answer in several ways, and prints how the copier waits and ends.
 pub fn wait_for_answers<R: AllocGlobal + Print + Wait>(rt: &R) -> anyhow::Result<()> {
-    print_waits(rt, "nobody answers", answers(0, 0, u32::MAX))?;
-    print_waits(rt, "accepted at the 999th wait", answers(999, 0, u32::MAX))?;
-    print_waits(rt, "ready, and Go is not answered", answers(1, 1, u32::MAX))?;
-    print_waits(rt, "an offer that cannot be sent", answers(1, 1, 1))?;
-    print_waits(rt, "a page that cannot be sent", answers(1, 1, 3))?;
+    print_waits(rt, "nobody answers", answering(0, 0, u32::MAX))?;
+    print_waits(
+        rt,
+        "accepted at the 999th wait",
+        answering(999, 0, u32::MAX),
+    )?;
+    print_waits(
+        rt,
+        "ready, and Go is not answered",
+        answering(1, 1, u32::MAX),
+    )?;
+    print_waits(rt, "an offer that cannot be sent", answering(1, 1, 1))?;
+    print_waits(rt, "a page that cannot be sent", answering(1, 1, 3))?;
     let slow = Answers {
         bandwidth: Some(1),
-        ..answers(1, 1, u32::MAX)
+        ..answering(1, 1, u32::MAX)
     };
     print_waits(rt, "ready, and a megabyte a second", slow)
 }
 
 /// The move is accepted and ready at these waits, and something can be sent `sends` times.
-fn answers(accepts: u32, is_ready: u32, sends: u32) -> Answers {
+fn answering(accepts: u32, is_ready: u32, sends: u32) -> Answers {
     Answers {
         accepts,
         is_ready,
