@@ -9,8 +9,8 @@
 - the pause as it is seen from outside: the largest gap between two pieces of the output of a guest that sends a byte at
   each second step, in 20 moves;
 - the guest's speed while 4096 filled pages are copied: the guest fills a pipe that nobody reads, so that it waits, and
-  then makes turns in silence; the pipe is read while the target still makes its RAM, and no page is copied, or in the
-  midst of the copies, with each of some bandwidths;
+  then makes turns in silence; the pipe is read in the midst of the copies, with each of some bandwidths, beside a megabyte
+  a second, at which hardly a page is copied meanwhile;
 - the time of a move of 4096 pages that nobody writes, all of them zeros or none, in each version, best of some runs that
   alternate with those it is compared with: a run of the same image, that is to load it; and a plain copy of as many
   pages over a loopback socket in C (`pages.c`), whose target throws them away, puts them into memory, or also keeps them
@@ -203,7 +203,7 @@ def silent_turns(image, delay, bandwidth):
     counts as time, so that this is a little less than its speed."""
     words = [PROGRAM, "move", image, "--raw", "--pages", str(PAGES), "--steps", str(MORE)]
     words += ["--bandwidth", str(bandwidth)] if bandwidth else []
-    process = subprocess.Popen(words, stdout=subprocess.PIPE, stderr=subprocess.PIPE, pipesize=4096)
+    process = subprocess.Popen(words, stdout=subprocess.PIPE, stderr=subprocess.DEVNULL, pipesize=4096)
     pipe, came = process.stdout.fileno(), 0
     while waiting_in(pipe) < 4096 - 256:
         pass
@@ -215,23 +215,28 @@ def silent_turns(image, delay, bandwidth):
         came += len(os.read(pipe, SENT - came))
     last = os.read(pipe, 1)
     ended = time.perf_counter()
-    answers = process.communicate()[1]
-    if process.returncode or not last or b"finished" not in answers:
-        sys.exit(f"{' '.join(words)}: status {process.returncode}")
+    process.kill()
+    process.wait()
+    if not last:
+        sys.exit(f"{' '.join(words)}: the guest fell silent")
     return SILENT / (ended - woken)
 
 
-def measure_speed(times=20):
-    """Prints the guest's speed while no page is copied, and while pages are, with each of some bandwidths."""
+def measure_speed(times=30):
+    """Prints the guest's speed while pages are copied, with each of some bandwidths, beside a megabyte a second."""
     image = os.path.join(BUILD, "silent.bin")
     code = bytes_of(assembled("silent", SENDS_THEN_SILENT))
     with open(image, "wb") as file:
         file.write(code + b"\xff" * (PAGES * 4096 - len(code)))
-    for bandwidth in (None, 200, 100, 50):
-        print(f"bandwidth {bandwidth}", flush=True)
-        for name, delay in (("no page is copied", 0.001), *((f"pages are copied, {d} ms later", d / 1000) for d in (12, 15, 18, 21))):
-            rates = sorted(silent_turns(image, delay, bandwidth) / 1e6 for _ in range(times))
-            print(f"    million turns a second, {name}: median {statistics.median(rates):.1f}, {rates[0]:.1f} to {rates[-1]:.1f}", flush=True)
+    for millis in (15, 18, 21, 30):
+        rates = {bandwidth: [] for bandwidth in (1, None, 200, 100, 50)}
+        for _ in range(times):
+            for bandwidth, of_it in rates.items():
+                of_it.append(silent_turns(image, millis / 1000, bandwidth) / 1e6)
+        still = statistics.median(rates[1])
+        print(f"million turns a second, {millis} ms later, at 1 MB a second: median {still:.1f}; " + "; ".join(
+            f"at {bandwidth}: {statistics.median(of_it):.1f}, {statistics.median(of_it) / still:.2f}"
+            for bandwidth, of_it in rates.items() if bandwidth != 1), flush=True)
 
 
 def copied(mode):
