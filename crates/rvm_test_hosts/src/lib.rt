@@ -1,7 +1,8 @@
-//! Tests of hosts and worlds, and of what stands between a host and a connection, for what no clause says: that each
-//! event that allocates succeeds, also if it is repeated after an allocation failed (`make faults` makes allocations
-//! fail, one at a time: at most 60 of a test, or, with `MOST=0`, each one); that calls succeed if there are memory and
-//! connections; and which bytes are sent. Worked moves are cases (`moves.cases` of `rvm_test_program`).
+//! Tests of hosts and worlds, of what stands between a host and a connection, and of commands, for what no clause says:
+//! that each event that allocates succeeds, also if it is repeated after an allocation failed (`make faults` makes
+//! allocations fail, one at a time: at most 60 of a test, or, with `MOST=0`, each one); that calls succeed if there are
+//! memory and connections; which bytes are sent; the values of a command line; and what follows from a read or a write
+//! that fails. Worked moves are cases (`moves.cases` of `rvm_test_program`).
 //!
 //! Stands on the libraries, which have no tests of their own. The replies and the bytes that it expects are worked out
 //! by hand from the protocol's rules and from the layout of records and frames.
@@ -11,11 +12,14 @@
 //! of frame in each mode, `declined` a guest that is too large, `strangers` frames that hosts do not wait for, `spent`
 //! the last move number, `worlds` lists of events and driven moves, `scripts` a script that is too long, `streams` the
 //! bytes of a move, cut in two at each place; `records` reads and writes records, `routes` sends frames to hosts, and
-//! `cells` plays events on a host under its lock; `journals` writes the journal of a host; `names` has the public names that the names of the crates promise.
+//! `cells` plays events on a host under its lock; `journals` writes the journal of a host; `command_line` and `writers`
+//! test the words and the streams of commands; `names` has the public names that the names of the crates promise.
 #![tactic(auto)]
 
 #[cfg(test)]
 mod cells;
+#[cfg(test)]
+mod command_line;
 #[cfg(test)]
 mod declined;
 #[cfg(test)]
@@ -45,3 +49,5 @@ mod strangers;
 mod streams;
 #[cfg(test)]
 mod worlds;
+#[cfg(test)]
+mod writers;

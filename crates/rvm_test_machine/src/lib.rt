@@ -1,16 +1,16 @@
 //! Tests of the machine and its texts, for what no clause says: values against those of the manuals and of the GNU
-//! assembler; layouts; what the assembler and its readers make; both memories; the values of a command line; that each
-//! call that allocates succeeds, also if it is repeated after an allocation failed (`make faults` makes allocations
-//! fail, one at a time: at most 60 of a test, or, with `MOST=0`, each one); and what follows from a read or a write
-//! that fails. What the program itself shows stands in the transcripts of `rvm_test_program`.
+//! assembler; layouts; what the assembler and its readers make; both memories; and that each call that allocates
+//! succeeds, also if it is repeated after an allocation failed (`make faults` makes allocations fail, one at a time: at
+//! most 60 of a test, or, with `MOST=0`, each one). What the program itself shows stands in the transcripts of
+//! `rvm_test_program`.
 //!
 //! Stands on the libraries, which have no tests of their own. What it expects comes from the definitions' worked cases
 //! and from the manual's formats, never from this program.
 //!
 //! To be read in this order: `retry` repeats a call that fails, and `boards` makes boards; `words`, `rows`, `memory`,
 //! `paged`, `straight`, `assembler`, `disassembler`, `elf`, `state`, `frames`, `scripts`, `worked`, `peers`,
-//! `greetings`, `command_line` and `writers` each test one subject; `both_memories` tests numbers and ranges of bytes
-//! over each memory, and `limits` what is as long as it may be.
+//! and `greetings` each test one subject; `both_memories` tests numbers and ranges of bytes over each memory, and
+//! `limits` what is as long as it may be.
 #![tactic(auto)]
 
 #[cfg(test)]
@@ -19,8 +19,6 @@ mod assembler;
 mod boards;
 #[cfg(test)]
 mod both_memories;
-#[cfg(test)]
-mod command_line;
 #[cfg(test)]
 mod disassembler;
 #[cfg(test)]
@@ -51,5 +49,3 @@ mod straight;
 mod words;
 #[cfg(test)]
 mod worked;
-#[cfg(test)]
-mod writers;
