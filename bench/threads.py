@@ -229,7 +229,7 @@ def measure_speed(times=30):
     with open(image, "wb") as file:
         file.write(code + b"\xff" * (PAGES * 4096 - len(code)))
     for millis in (15, 18, 21, 30):
-        rates = {bandwidth: [] for bandwidth in (1, None, 200, 100, 50)}
+        rates = {bandwidth: [] for bandwidth in (1, None, 200, 100, 50, 25)}
         for _ in range(times):
             for bandwidth, of_it in rates.items():
                 of_it.append(silent_turns(image, millis / 1000, bandwidth) / 1e6)
