@@ -1,13 +1,14 @@
 //! Keeps the turns of the guest's harts, and the copies of its pages, at a rate, if there is a limit.
 
 use crate::course::now;
+use rvm_mem::PAGE_SIZE;
 use rvm_message::HostReply;
 use std::sync::Wait;
 use std::thread;
 use std::time::{Clock, Duration};
 
 /// The bytes of a page.
-const PAGE: u64 = 4096;
+const PAGE: u64 = PAGE_SIZE as u64;
 
 /// The pace of turns, or of copies: how many were made, and since when.
 #[derive(Clone, Copy)]

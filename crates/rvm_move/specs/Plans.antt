@@ -2,8 +2,8 @@
 use Rattle.rvm_arguments.specs.declared.arguments.MoveArguments.{MoveArguments}
 use Rattle.rvm_move.specs.declared.plan.Plan.{Plan}
 
--- the plan: at most `steps` turns of the board's harts, pre-copy with this policy, at most so many megabytes a second,
--- streams of this version
+-- the plan: at most `steps` turns of the board's harts, pre-copy with this policy and at this bandwidth, streams of this
+-- version
 abbrev pub plan_of : MoveArguments → Plan
 plan_of a = record {
   harts = a.guest.harts;
