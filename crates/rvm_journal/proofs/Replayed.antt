@@ -5,14 +5,13 @@ use Rattle.std.specs.Option.{option_and_then}
 use Rattle.std.specs.Prelude.{IfErr, IsErrAnd, codes, nat_le, nat_lt}
 use Rattle.std.specs.Str.{bytes_eq}
 use Rattle.std.proofs.lemmas.Bool.Decides.{nat_tests}
-use Rattle.std.proofs.lemmas.List.{append-nil, length-map, map-append}
+use Rattle.std.proofs.lemmas.List.{append-nil}
 use Rattle.std.proofs.lemmas.Option.{same_Some}
 use Rattle.hex.specs.Hex.{decode_of}
 use Rattle.hex.specs.declared.error.FromHexError.{FromHexError}
-use Rattle.rvm_recorder.specs.Errors.{IsRecordError}
-use Rattle.rvm_recorder.specs.Items.{entries_in, last_of, one_if, step_entry, steps_in_turn}
 use Rattle.rvm_recorder.specs.Logs.{steps_from}
-use Rattle.rvm_recorder.proofs.Logs.{steps_more}
+use Rattle.rvm_recorder.specs.Recorders.{IsFull, Records, room_of}
+use Rattle.rvm_recorder.proofs.Recorders.{longer, none_recorded, then_recorded}
 use Rattle.rvm_core.specs.WorldLines.{world_line_of}
 use Rattle.rvm_debug.specs.Lines.{numeral}
 use Rattle.rvm_debug.specs.Words.{lines, words}
@@ -22,13 +21,9 @@ use Rattle.rvm_frame.specs.Grammar.{Received}
 use Rattle.rvm_frame.specs.Verdict.{one_frame_of, verdict}
 use Rattle.rvm_message.specs.declared.event.Command.{Command}
 use Rattle.rvm_message.specs.declared.event.HostEvent.{HostEvent}
-use Rattle.rvm_message.specs.declared.step.StepReply.{StepReply}
-use Rattle.rvm_message.specs.Exchanges.{step_of_hart}
-use Rattle.rvm_recorder.specs.declared.error.RecordError.{RecordError}
-use Rattle.rvm_recorder.specs.declared.error.RecordError.TheVariants as record_error
-use Rattle.rvm_recorder.specs.Entries.{PlainEntry}
-use Rattle.rvm_recorder.specs.History.{Recording, count_of, with_entries}
-use Rattle.rvm_recorder.specs.Slices.{AreTurnsRecorded}
+use Rattle.rvm_recorder.specs.declared.error.ReplayError.{ReplayError}
+use Rattle.rvm_recorder.specs.declared.error.ReplayError.TheVariants as replay_error
+use Rattle.rvm_recorder.specs.History.{Recording}
 use Rattle.rvm_journal.specs.declared.noted.Noted.{Noted}
 use Rattle.rvm_journal.specs.declared.noted.Noted.TheVariants.{Turns, Command as Commanded, Came, Met, End}
 use Rattle.rvm_journal.specs.declared.replay.JournalFault.{JournalFault}
@@ -36,7 +31,7 @@ use Rattle.rvm_journal.specs.declared.replay.JournalFault.TheVariants as fault
 use Rattle.rvm_journal.specs.Headers.{first_header, header_at, header_in_line}
 use Rattle.rvm_recorder.specs.declared.log.Meeting.{Meeting}
 use Rattle.rvm_journal.specs.Noting.{bytes_noted, came_noted, command_in, end_noted, events_of, frame_noted, meeting_in, noted_by, noted_of, run_if, turns_noted}
-use Rattle.rvm_journal.specs.Replaying.{AreFewer, HasHarts, HasMore, IsFull, IsJournalFault, IsLineFault, IsReplayedTo, IsRoomFault, IsSpent, IsWanted, LacksHeader, LacksRoom, Records, events_in, first_of, left_of, noted_at, room_of}
+use Rattle.rvm_journal.specs.Replaying.{AreFewer, HasHarts, IsJournalFault, IsLineFault, IsReplayedTo, IsRoomFault, IsSpent, IsWanted, LacksHeader, LacksRoom, first_of, left_of, noted_at}
 use Rattle.rvm_journal.specs.Told.{Told, at_header, digest_after, digest_behind, header_told, mark, no_digest, text_in, told_by, told_in, told_of}
 use Rattle.rvm_journal.proofs.Adding.{behind_header, one_told}
 use Rattle.rvm_journal.proofs.Runs.{how_many, joined, of_turn}
@@ -133,90 +128,21 @@ pub harts_of_noted : (n h : ℕ) (text : List ℕ) (noted : Noted) → noted_of 
 unfolding noted_of
 harts_of_noted n h text noted e = harts_of_words n h text (words text) noted e
 
--- recordings
-pub none_recorded : (r : Recording) → Records r [] r
-none_recorded r = record { opening = refl; events = sym (append-nil (events_in r.journal.entries)); capacity = refl }
-
-pub then_recorded : (a b c : Recording) (es fs : List HostEvent) → Records a es b → Records b fs c → Records a (es ++ fs) c
-then_recorded a b c es fs first more = record {
-  opening = more.opening ∙ first.opening;
-  events = more.events ∙ ap (λ l. l ++ fs) first.events ∙ append_assoc (events_in a.journal.entries) es fs;
-  capacity = more.capacity ∙ first.capacity;
-}
-
--- how many entries were recorded
-longer : (a b : Recording) (es : List HostEvent) → Records a es b → count_of b ≡ count_of a + length es
-longer a b es so =
-    let all : length (events_in b.journal.entries) ≡ length (events_in a.journal.entries ++ es) = ap length so.events in
-    omega (
-      arith,
-      all,
-      length-append (events_in a.journal.entries) es,
-      length-map a.journal.entries (λ (x : PlainEntry). x.event),
-      length-map b.journal.entries (λ (x : PlainEntry). x.event),
-    )
-
-pub more_recorded : (a b c : Recording) (es : List HostEvent) → Records a es b → HasMore b c → HasMore a c
-more_recorded a b c es first more = (es ++ more.0, then_recorded a b c es more.0 first more.1)
-
-pub same_more : (a b : Recording) → b ≡ a → HasMore a b
-same_more a b e = ([], subst (λ r. Records a [] r) (sym e) (none_recorded a))
-
-added : (old : Recording) (xs : List PlainEntry) (m : ℕ) (new : Recording) → new ≡ with_entries old xs m
-    → Records old (events_in xs) new
-added old xs m new e = record {
-  opening = ap (λ r. r.journal.opening) e;
-  events = ap (λ r. events_in r.journal.entries) e ∙ map-append (λ x. x.event) old.journal.entries xs;
-  capacity = ap (λ r. r.capacity) e;
-}
-
-pub of_entry : (old new : Recording) (x : PlainEntry) (m : ℕ) → new ≡ with_entries old (x ∷ []) m → Records old (x.event ∷ []) new
-of_entry old new x m e = added old (x ∷ []) m new e
+-- nothing is done
+pub none_done : (r : Recording) → Records r [] r
+none_done r = none_recorded r
 
 -- what holds of a fault that is handed on
 pub handed_on : {A E : Type 0} (P : E → Type 0) (x : E) (r : Result A E) → IsErrAnd r (λ e. e ≡ x) → P x → IfErr r P
 handed_on P x (Ok a) none has = absurd none
 handed_on P x (Err e) same has = subst P (sym same) has
 
--- turns
-all_steps : (turn harts n : ℕ) → events_in (steps_in_turn turn harts n) ≡ steps_from turn harts n
-unfolding steps_in_turn steps_from
-all_steps turn harts zero = refl
-all_steps turn harts (suc n) = ap (λ l. step_of_hart (turn % harts) ∷ l) (all_steps (turn + 1) harts n)
-
-all_turns : (turn harts n : ℕ) (last : Option StepReply)
-    → events_in (steps_in_turn turn harts n ++ last_of (turn + n) harts last) ≡ steps_from turn harts (n + one_if last)
-all_turns turn harts n None =
-    let all : n ≡ n + 0 = omega arith in
-    ap events_in (append-nil (steps_in_turn turn harts n)) ∙ all_steps turn harts n ∙ ap (steps_from turn harts) all
-all_turns turn harts n (Some r) =
-    let more : suc n ≡ n + 1 = omega arith in
-    map-append (λ x. x.event) (steps_in_turn turn harts n) (step_entry (turn + n) harts r ∷ [])
-    ∙ ap (λ l. l ++ step_of_hart ((turn + n) % harts) ∷ []) (all_steps turn harts n)
-    ∙ sym (steps_more turn harts n) ∙ ap (steps_from turn harts) more
-
-pub of_turns : (old new : Recording) (turn harts made : ℕ) → AreTurnsRecorded old turn harts made new
-    → Records old (steps_from turn harts made) new
-of_turns old new turn harts made done =
-    let run = done.run in
-    let told = added old (entries_in turn harts run) done.room new done.next in
-    let steps = all_turns turn harts run.retired run.last ∙ ap (steps_from turn harts) done.count in
-    record {
-      opening = told.opening;
-      events = told.events ∙ ap (λ l. events_in old.journal.entries ++ l) steps;
-      capacity = told.capacity;
-    }
-
--- a recorder that refuses turns has no room for one
-pub lacks_room : (why : RecordError) (r : Recording) → IsRecordError why (count_of r) r.capacity → LacksRoom why r 1
-lacks_room record_error.OutOfMemory r is = tt
-lacks_room (record_error.RecorderFull c) r is =
-    let full : count_of r ≡ r.capacity = is.1 in
-    omega (arith, full)
-
-pub is_full : (why : RecordError) (r : Recording) → IsRecordError why (count_of r) r.capacity → IsFull why r
-is_full record_error.OutOfMemory r is = tt
-is_full (record_error.RecorderFull c) r is = is.1
+-- a recorder that is full has no room for an event
+pub lacks_room : (why : ReplayError) (r : Recording) → IsFull why r → LacksRoom why r 1
+lacks_room replay_error.OutOfMemory r is = tt
+lacks_room (replay_error.TooMany most) r is =
+    let full = is.0 in
+    (omega (arith, full), is.1)
 
 -- turns that are taken one run after the other
 pub record Turned (first harts count left turn : ℕ) (old now : Recording) : Type 0 where
@@ -263,14 +189,15 @@ all_turned first harts count left turn a b so none =
     subst (λ n. Records a (steps_from first harts n) b) whole so.recorded
 
 -- no room for the turns that are left
-pub none_left : (why : RecordError) (first harts count left turn : ℕ) (a b : Recording) → Turned first harts count left turn a b
+pub none_left : (why : ReplayError) (first harts count left turn : ℕ) (a b : Recording) → Turned first harts count left turn a b
     → 1 ≤ left → LacksRoom why b 1 → LacksRoom why a (length (steps_from first harts count))
-none_left record_error.OutOfMemory first harts count left turn a b so some room = tt
-none_left (record_error.RecorderFull c) first harts count left turn a b so some room =
+none_left replay_error.OutOfMemory first harts count left turn a b so some room = tt
+none_left (replay_error.TooMany most) first harts count left turn a b so some room =
     let all = so.all in
+    let none = room.0 in
     let same = so.recorded.capacity in
     let made = longer a b (steps_from first harts so.taken) so.recorded in
-    omega (arith, all, some, room, same, made, how_many first harts so.taken, how_many first harts count)
+    (omega (arith, all, some, none, same, made, how_many first harts so.taken, how_many first harts count), room.1 ∙ same)
 
 -- what is wanted of no event, and of one
 pub first_none : (most : Option ℕ) → [] ≡ first_of most []
@@ -323,7 +250,7 @@ enough_told m left rest es is (inr spent) =
 pub not_spent : (why : JournalFault) (n h number : ℕ) (digest line : List ℕ) (r : Recording)
     → IsLineFault why n h number digest line → IsSpent why r
 not_spent (fault.BadLine k) n h number digest line r bad = tt
-not_spent fault.TooLong n h number digest line r bad = absurd bad
+not_spent (fault.TooLong most) n h number digest line r bad = absurd bad
 not_spent fault.OutOfMemory n h number digest line r bad = tt
 
 -- what a first line tells
@@ -411,11 +338,11 @@ module _ (n h : ℕ) where
       }
 
   -- a line that was not read
-  pub line_refused : (most left : Option ℕ) (ls rest behind : List (List ℕ)) (line digest after : List ℕ) (number more room : ℕ)
+  pub line_refused : (most left : Option ℕ) (ls rest behind : List (List ℕ)) (line digest after : List ℕ) (number more : ℕ)
       (why : JournalFault) (a b : Recording) → Doing most left ls rest digest number a b → IsWanted left
       → rest ≡ line ∷ behind → after ≡ digest_behind digest line → more ≡ number + 1 → IsLineFault why n h more after line
-      → IsJournalFault why most n h ls room
-  line_refused most left ls rest behind line digest after number more room (fault.BadLine k) a b so wanted rest_is is more_is bad =
+      → IsJournalFault why most n h ls a.capacity (room_of a)
+  line_refused most left ls rest behind line digest after number more (fault.BadLine k) a b so wanted rest_is is more_is bad =
       let t : Told = record { digest = digest; events = so.events } in
       let count = so.number_is in
       let k_is = bad.0 in
@@ -432,32 +359,35 @@ module _ (n h : ℕ) where
             ∙ ap (λ o. option_map (λ noted. told_with (digest_behind digest line) t noted) o)
             (ap (λ d. noted_at n h d line) (sym is) ∙ bad.1);
       })
-  line_refused most left ls rest behind line digest after number more room fault.TooLong a b so wanted rest_is is more_is bad =
+  line_refused most left ls rest behind line digest after number more (fault.TooLong m) a b so wanted rest_is is more_is bad =
       absurd bad
-  line_refused most left ls rest behind line digest after number more room fault.OutOfMemory a b so wanted rest_is is more_is
+  line_refused most left ls rest behind line digest after number more fault.OutOfMemory a b so wanted rest_is is more_is
       bad = tt
 
   -- a line that was read, and whose events were not all recorded
   pub room_refused : (most left : Option ℕ) (ls rest behind : List (List ℕ)) (line digest after : List ℕ) (number : ℕ)
       (noted : Noted) (why : JournalFault) (a b : Recording) → Doing most left ls rest digest number a b
       → rest ≡ line ∷ behind → after ≡ digest_behind digest line → noted_at n h after line ≡ Some noted
-      → IsRoomFault why (length (first_of left (events_of noted))) (room_of b) → IsJournalFault why most n h ls (room_of a)
+      → IsRoomFault why (length (first_of left (events_of noted))) b → IsJournalFault why most n h ls a.capacity (room_of a)
   room_refused most left ls rest behind line digest after number noted (fault.BadLine k) a b so rest_is is own bad = absurd bad
-  room_refused most left ls rest behind line digest after number noted fault.TooLong a b so rest_is is own bad =
+  room_refused most left ls rest behind line digest after number noted (fault.TooLong m) a b so rest_is is own bad =
       let es = events_of noted in
       let wanted : first_of most so.events ++ first_of left es ≡ first_of most (so.events ++ es) =
       ap (λ o. first_of most so.events ++ first_of o es) so.left_is ∙ first_both most so.events es in
       let size = ap length wanted in
       let made = longer a b (first_of most so.events) so.recorded in
       let same = so.recorded.capacity in
-      record {
-        read = so.before ++ line ∷ [];
-        rest = behind;
-        lines_are = one_more ls so.before rest behind line so.lines_are rest_is;
-        told = record { digest = after; events = so.events ++ es };
-        told_is = read_more so.before so.events line digest after noted so.told is own;
-        many = omega (arith, bad, size, made, same, length-append (first_of most so.events) (first_of left es));
-      }
+      let many = bad.0 in (
+        record {
+          read = so.before ++ line ∷ [];
+          rest = behind;
+          lines_are = one_more ls so.before rest behind line so.lines_are rest_is;
+          told = record { digest = after; events = so.events ++ es };
+          told_is = read_more so.before so.events line digest after noted so.told is own;
+          many = omega (arith, many, size, made, same, length-append (first_of most so.events) (first_of left es));
+        },
+        bad.1 ∙ same,
+      )
   room_refused most left ls rest behind line digest after number noted fault.OutOfMemory a b so rest_is is own bad = tt
 
   -- no line is left, or no event is wanted any more

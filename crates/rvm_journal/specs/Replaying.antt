@@ -1,23 +1,19 @@
 -- A journal that is read: a recorded host does what its lines tell.
-use Rattle.std.specs.Prelude.{◌≡◌, ◌⊎◌, ⊤, ℕ, ◌+◌, ◌-◌, ◌<◌, ◌≤◌, Bool, if◌then◌else◌, List, [], ◌∷◌, ◌++◌, codes, length, map, take, Option, Some, None}
+use Rattle.std.specs.Prelude.{◌≡◌, ◌⊎◌, ⊤, ℕ, ◌+◌, ◌-◌, ◌<◌, ◌≤◌, Bool, if◌then◌else◌, List, [], ◌∷◌, ◌++◌, codes, length, take, Option, Some, None}
 use Rattle.std.specs.Fmt.{decimal}
 use Rattle.std.specs.Str.{bytes_eq}
 use Rattle.rvm_debug.specs.Words.{lines}
 use Rattle.rvm_message.specs.declared.event.HostEvent.{HostEvent}
-use Rattle.rvm_recorder.specs.declared.error.RecordError.{RecordError}
-use Rattle.rvm_recorder.specs.declared.error.RecordError.TheVariants as record_error
-use Rattle.rvm_recorder.specs.Entries.{PlainEntry}
+use Rattle.rvm_recorder.specs.declared.error.ReplayError.{ReplayError}
+use Rattle.rvm_recorder.specs.declared.error.ReplayError.TheVariants as replay_error
 use Rattle.rvm_recorder.specs.History.{Recording, count_of}
+use Rattle.rvm_recorder.specs.Recorders.{Records, room_of}
 use Rattle.rvm_journal.specs.declared.noted.Noted.{Noted}
 use Rattle.rvm_journal.specs.declared.noted.Noted.TheVariants.{Turns, Command as Commanded, Came, Met, End}
 use Rattle.rvm_journal.specs.declared.replay.JournalFault.{JournalFault}
 use Rattle.rvm_journal.specs.declared.replay.JournalFault.TheVariants.{BadLine, TooLong, OutOfMemory}
 use Rattle.rvm_journal.specs.Noting.{noted_of}
 use Rattle.rvm_journal.specs.Told.{Told, header_told, mark, text_in, told_by, told_in, told_of}
-
--- the events of entries
-abbrev pub events_in : List PlainEntry → List HostEvent
-events_in entries = map (λ x. x.event) entries
 
 -- the last of some lines that come after this one
 abbrev pub last_of : (line : List ℕ) → (lines : List (List ℕ)) → List ℕ
@@ -47,30 +43,10 @@ AreFewer (Some n) es = length es < n
 abbrev pub IsWanted : (most : Option ℕ) → Type 0
 IsWanted most = AreFewer most []
 
--- these events were recorded, in order, after those that were there; the host with which the journal opened and the
--- number of entries that it takes are as they were
-pub record Records (old : Recording) (es : List HostEvent) (new : Recording) : Type 0 where
-  pub opening : new.journal.opening ≡ old.journal.opening
-  pub events : events_in new.journal.entries ≡ events_in old.journal.entries ++ es
-  pub capacity : new.capacity ≡ old.capacity
-
--- some events were recorded, in order, after those that were there
-abbrev pub HasMore : (old new : Recording) → Type 0
-HasMore old new = (events : List HostEvent) × Records old events new
-
--- how many more entries a recorder takes
-abbrev pub room_of : Recording → ℕ
-room_of r = r.capacity - count_of r
-
--- the recorder takes no more entries, if an event was refused for that
-abbrev pub IsFull : RecordError → Recording → Type 0
-IsFull record_error.OutOfMemory r = ⊤
-IsFull (record_error.RecorderFull c) r = count_of r ≡ r.capacity
-
 -- the recorder had no room for this many entries, if they were refused for that
-abbrev pub LacksRoom : RecordError → Recording → (count : ℕ) → Type 0
-LacksRoom record_error.OutOfMemory r n = ⊤
-LacksRoom (record_error.RecorderFull c) r n = room_of r < n
+abbrev pub LacksRoom : ReplayError → Recording → (count : ℕ) → Type 0
+LacksRoom replay_error.OutOfMemory r n = ⊤
+LacksRoom (replay_error.TooMany most) r n = (room_of r < n) × (most ≡ r.capacity)
 
 -- the lines before the one with this number, from 1, tell something, and fewer events than are wanted, and that line tells
 -- nothing
@@ -106,19 +82,21 @@ pub record IsTooLong (most : Option ℕ) (hosts host : ℕ) (ls : List (List ℕ
 -- what is reported of a fault
 abbrev pub fault_text : JournalFault → List ℕ
 fault_text OutOfMemory = codes "out of memory"
-fault_text TooLong = codes "more than 4294967295 events"
+fault_text (TooLong most) = codes "more than " ++ decimal most ++ codes " events"
 fault_text (BadLine number) = codes "line " ++ decimal number ++ codes ": no line of this journal"
 
--- why not all events that are wanted of a journal were done: the first line that tells nothing, or too little room
-abbrev pub IsJournalFault : JournalFault → (most : Option ℕ) → (hosts host : ℕ) → (ls : List (List ℕ)) → (room : ℕ) → Type 0
-IsJournalFault (BadLine number) most n h ls room = IsFirstBad most n h ls number
-IsJournalFault TooLong most n h ls room = IsTooLong most n h ls room
-IsJournalFault OutOfMemory most n h ls room = ⊤
+-- why not all events that are wanted of a journal were done: the first line that tells nothing, or too little room in a
+-- recorder that takes so many entries
+abbrev pub IsJournalFault : JournalFault → (most : Option ℕ) → (hosts host : ℕ) → (ls : List (List ℕ)) → (capacity room : ℕ)
+    → Type 0
+IsJournalFault (BadLine number) most n h ls capacity room = IsFirstBad most n h ls number
+IsJournalFault (TooLong m) most n h ls capacity room = IsTooLong most n h ls room × (m ≡ capacity)
+IsJournalFault OutOfMemory most n h ls capacity room = ⊤
 
 -- the recorder takes no more entries, if a journal was too long for it
 abbrev pub IsSpent : JournalFault → Recording → Type 0
 IsSpent (BadLine number) r = ⊤
-IsSpent TooLong r = count_of r ≡ r.capacity
+IsSpent (TooLong most) r = count_of r ≡ r.capacity
 IsSpent OutOfMemory r = ⊤
 
 -- all lines of a journal were done: what they tell was recorded
@@ -156,11 +134,11 @@ noted_at n h d line = if bytes_eq (take 17 line) (mark d) then noted_of n h (tex
 -- why a line with this number and digest was not read: it tells nothing, or memory ran out
 abbrev pub IsLineFault : JournalFault → (hosts host number : ℕ) → (digest line : List ℕ) → Type 0
 IsLineFault (BadLine k) n h number d line = (k ≡ number) × (noted_at n h d line ≡ None)
-IsLineFault TooLong n h number d line = ⊥
+IsLineFault (TooLong most) n h number d line = ⊥
 IsLineFault OutOfMemory n h number d line = ⊤
 
--- why this many events, as a line tells, were not done: too little room, or memory ran out
-abbrev pub IsRoomFault : JournalFault → (count room : ℕ) → Type 0
-IsRoomFault (BadLine k) count room = ⊥
-IsRoomFault TooLong count room = room < count
-IsRoomFault OutOfMemory count room = ⊤
+-- why this many events, as a line tells, were not done: too little room in the recorder, or memory ran out
+abbrev pub IsRoomFault : JournalFault → (count : ℕ) → Recording → Type 0
+IsRoomFault (BadLine k) n r = ⊥
+IsRoomFault (TooLong most) n r = (room_of r < n) × (most ≡ r.capacity)
+IsRoomFault OutOfMemory n r = ⊤

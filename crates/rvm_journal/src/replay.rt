@@ -3,11 +3,12 @@
 ghost use Rattle.std.specs.Prelude.{◌≡◌, ◌+◌, ◌%◌, ◌<◌, ◌≤◌, ◌∷◌, [], false, length, take, true, IfErr, IfOk, IfSome, MatchOption, None, OnErr, OnOk, Some};
 ghost use Rattle.std.specs.Str.{bytes_eq};
 ghost use Rattle.rvm_recorder.specs.Logs.{steps_from};
+ghost use Rattle.rvm_recorder.specs.Recorders.{HasMore, IsFull, Records, room_of};
 ghost use Rattle.rvm_debug.specs.Words.{lines};
 ghost use Rattle.rvm_message.specs.declared.event.HostEvent.TheVariants.{Came};
 ghost use Rattle.rvm_journal.specs.Headers.{IsRanged, header_at, header_in_line};
 ghost use Rattle.rvm_journal.specs.Noting.{events_of};
-ghost use Rattle.rvm_journal.specs.Replaying.{HasHarts, HasMore, IsFull, IsJournalFault, IsLineFault, IsReplayedTo, IsRoomFault, IsSpent, IsWanted, LacksRoom, Records, first_of, is_whole, last_of, left_of, noted_at, room_of};
+ghost use Rattle.rvm_journal.specs.Replaying.{HasHarts, IsJournalFault, IsLineFault, IsReplayedTo, IsRoomFault, IsSpent, IsWanted, LacksRoom, first_of, is_whole, last_of, left_of, noted_at};
 ghost use Rattle.rvm_journal.specs.Told.{header_told, mark, text_in};
 
 use crate::digest::{LineDigest, MARK};
@@ -17,9 +18,8 @@ use crate::run::Run;
 use crate::texts::END;
 use rvm_debug::split_line;
 use rvm_frame::Frame;
-use rvm_mem::PagedMemory;
 use rvm_message::{HostEvent, Shared};
-use rvm_recorder::{RecordError, Recorded};
+use rvm_recorder::{Recorder, ReplayError};
 use std::alloc::{AllocError, Global};
 use std::fmt;
 
@@ -28,8 +28,8 @@ use std::fmt;
 pub enum JournalFault {
     /// Memory ran out.
     OutOfMemory,
-    /// The journal tells more events than can be counted.
-    TooLong,
+    /// The journal tells more events than this, and no more can be counted.
+    TooLong(u64),
     /// The line with this number, from 1, does not show the digest of all lines up to it, or its text tells nothing; of a
     /// journal without a line, 1.
     BadLine(usize),
@@ -45,31 +45,33 @@ impl fmt::Display for JournalFault {
     fn fmt<W: fmt::Write>(&self, f: &mut fmt::Formatter<W>) -> fmt::Result {
         match *self {
             JournalFault::OutOfMemory => write!(f, "out of memory"),
-            JournalFault::TooLong => write!(f, "more than 4294967295 events"),
+            JournalFault::TooLong(most) => write!(f, "more than {most} events"),
             JournalFault::BadLine(number) => write!(f, "line {number}: no line of this journal"),
         }
     }
 }
 
-/// Has a recorded host do what the journal of host `host` of this many hosts tells, which has these bytes: the events
-/// that the lines after the first tell, which is the header's, in order, up to `most` of them, or all. No line is looked
-/// at after these events, and the last line that is looked at may tell more of them.
+/// Has a host do what the journal of host `host` of this many hosts tells, which has these bytes: the events that the
+/// lines after the first tell, which is the header's, in order, up to `most` of them, or all. No line is looked at after
+/// these events, and the last line that is looked at may tell more of them.
 ///
 /// Fails with `BadLine` at the first line that does not show the digest of all lines up to it, or whose text tells
 /// nothing; with `TooLong` if the recorder takes no more entries; with `OutOfMemory` if memory runs out. What the lines
 /// before tell has been recorded then.
-pub fn replay_journal<M: PagedMemory + Drop>(
+pub fn replay_journal<R: Recorder>(
     alloc: Global,
     hosts: u8,
     host: u8,
     bytes: &[u8],
     most: Option<u32>,
-    recorded: &mut Recorded<M>,
+    recorder: &mut R,
 ) -> Result<(), JournalFault>
-    ensures told { OnOk result (IsReplayedTo most hosts host bytes.now recorded.old recorded.new) }
-    ensures fault { IfErr result (λ why. IsJournalFault why most hosts host (lines bytes.now) (room_of recorded.old)) }
-    ensures spent { IfErr result (λ why. IsSpent why recorded.new) }
-    ensures more { OnErr result (HasMore recorded.old recorded.new) }
+    ensures told { OnOk result (IsReplayedTo most hosts host bytes.now (R.recording recorder.old)
+        (R.recording recorder.new)) }
+    ensures fault { IfErr result (λ why. IsJournalFault why most hosts host (lines bytes.now)
+        (R.recording recorder.old).capacity (room_of (R.recording recorder.old))) }
+    ensures spent { IfErr result (λ why. IsSpent why (R.recording recorder.new)) }
+    ensures more { OnErr result (HasMore (R.recording recorder.old) (R.recording recorder.new)) }
 {
     if bytes.is_empty() {
         return Err(JournalFault::BadLine(1));
@@ -86,7 +88,7 @@ pub fn replay_journal<M: PagedMemory + Drop>(
         number += 1;
         digest = digest.after(text_in(line));
         let noted = read_line(alloc, hosts, host, number, &digest, line)?;
-        left = do_first(alloc, noted, left, recorded)?;
+        left = do_first(alloc, noted, left, recorder)?;
         rest = behind;
     }
     Ok(())
@@ -221,27 +223,29 @@ pub(crate) fn text_in(line: &[u8]) -> &[u8]
     &line[line.len().min(MARK)..]
 }
 
-/// Has a recorded host do the events that a line tells, up to as many as are wanted, one or more, or all. Returns how
-/// many are wanted after the line.
-fn do_first<M: PagedMemory + Drop>(
+/// Has a host do the events that a line tells, up to as many as are wanted, one or more, or all. Returns how many are
+/// wanted after the line.
+fn do_first<R: Recorder>(
     alloc: Global,
     noted: Noted,
     left: Option<u32>,
-    recorded: &mut Recorded<M>,
+    recorder: &mut R,
 ) -> Result<Option<u32>, JournalFault>
     requires harts { HasHarts noted }
     requires wanted { IsWanted left }
-    ensures done { OnOk result (Records recorded.old (first_of left (events_of noted)) recorded.new) }
+    ensures done { OnOk result (Records (R.recording recorder.old) (first_of left (events_of noted))
+        (R.recording recorder.new)) }
     ensures left { IfOk result (λ after. after ≡ left_of left (events_of noted)) }
-    ensures room { IfErr result (λ why. IsRoomFault why (length (first_of left (events_of noted))) (room_of recorded.old)) }
-    ensures spent { IfErr result (λ why. IsSpent why recorded.new) }
-    ensures more { OnErr result (HasMore recorded.old recorded.new) }
+    ensures room { IfErr result (λ why. IsRoomFault why (length (first_of left (events_of noted)))
+        (R.recording recorder.old)) }
+    ensures spent { IfErr result (λ why. IsSpent why (R.recording recorder.new)) }
+    ensures more { OnErr result (HasMore (R.recording recorder.old) (R.recording recorder.new)) }
 {
     let after = left_after(left, &noted);
-    match do_noted(alloc, noted.up_to(left), recorded) {
+    match do_noted(alloc, noted.up_to(left), recorder) {
         Ok(()) => Ok(after),
-        Err(RecordError::OutOfMemory) => Err(JournalFault::OutOfMemory),
-        Err(RecordError::RecorderFull(_)) => Err(JournalFault::TooLong),
+        Err(ReplayError::OutOfMemory) => Err(JournalFault::OutOfMemory),
+        Err(ReplayError::TooMany(most)) => Err(JournalFault::TooLong(most)),
     }
 }
 
@@ -255,105 +259,59 @@ fn left_after(left: Option<u32>, noted: &Noted) -> Option<u32>
     }
 }
 
-/// Has a recorded host do what a line tells. Fails if memory runs out, or if the recorder takes no more entries.
-#[tactic(auto, using(crate::proofs::Replayed::none_recorded))]
-fn do_noted<M: PagedMemory + Drop>(
-    alloc: Global,
-    noted: Noted,
-    recorded: &mut Recorded<M>,
-) -> Result<(), RecordError>
+/// Has a host do what a line tells. Fails if memory runs out, or if the recorder takes no more events.
+#[tactic(auto, using(crate::proofs::Replayed::none_done, crate::proofs::Replayed::lacks_room))]
+fn do_noted<R: Recorder>(alloc: Global, noted: Noted, recorder: &mut R) -> Result<(), ReplayError>
     requires { HasHarts noted }
-    ensures done { OnOk result (Records recorded.old (events_of noted) recorded.new) }
-    ensures room { IfErr result (λ why. LacksRoom why recorded.old (length (events_of noted))) }
-    ensures full { IfErr result (λ why. IsFull why recorded.new) }
-    ensures more { OnErr result (HasMore recorded.old recorded.new) }
+    ensures done { OnOk result (Records (R.recording recorder.old) (events_of noted) (R.recording recorder.new)) }
+    ensures room { IfErr result (λ why. LacksRoom why (R.recording recorder.old) (length (events_of noted))) }
+    ensures full { IfErr result (λ why. IsFull why (R.recording recorder.new)) }
+    ensures more { OnErr result (HasMore (R.recording recorder.old) (R.recording recorder.new)) }
 {
     match noted {
-        Noted::Turns(run) => do_turns(alloc, run, recorded),
-        Noted::Command(command) => do_event(alloc, HostEvent::Do(command), recorded),
-        Noted::Came { from, frame } => do_came(alloc, from, frame, recorded),
+        Noted::Turns(run) => do_turns(alloc, run, recorder),
+        Noted::Command(command) => recorder.event(alloc, HostEvent::Do(command)),
+        Noted::Came { from, frame } => do_came(alloc, from, frame, recorder),
         Noted::Met(_) | Noted::End => Ok(()),
     }
 }
 
-/// Has a recorded host hear a frame from host `from`.
-fn do_came<M: PagedMemory + Drop>(
+/// Has a host hear a frame from host `from`.
+fn do_came<R: Recorder>(
     alloc: Global,
     from: u8,
     frame: Frame,
-    recorded: &mut Recorded<M>,
-) -> Result<(), RecordError>
-    ensures done { OnOk result (Records recorded.old (Came from frame ∷ []) recorded.new) }
-    ensures room { IfErr result (λ why. LacksRoom why recorded.old 1) }
-    ensures full { IfErr result (λ why. IsFull why recorded.new) }
-    ensures same { OnErr result (recorded.new ≡ recorded.old) }
+    recorder: &mut R,
+) -> Result<(), ReplayError>
+    ensures done { OnOk result (Records (R.recording recorder.old) (Came from frame ∷ []) (R.recording recorder.new)) }
+    ensures full { IfErr result (λ why. IsFull why (R.recording recorder.old)) }
+    ensures same { OnErr result (R.recording recorder.new ≡ R.recording recorder.old) }
 {
     match Shared::new(alloc, frame) {
-        Ok(frame) => do_event(alloc, HostEvent::Came(from, frame), recorded),
-        Err(_) => Err(RecordError::OutOfMemory),
+        Ok(frame) => recorder.event(alloc, HostEvent::Came(from, frame)),
+        Err(_) => Err(ReplayError::OutOfMemory),
     }
 }
 
-/// Has a recorded host do one event.
-#[tactic(auto, using(crate::proofs::Replayed::of_entry))]
-fn do_event<M: PagedMemory + Drop>(
-    alloc: Global,
-    event: HostEvent,
-    recorded: &mut Recorded<M>,
-) -> Result<(), RecordError>
-    ensures done { OnOk result (Records recorded.old (event ∷ []) recorded.new) }
-    ensures room { IfErr result (λ why. LacksRoom why recorded.old 1) }
-    ensures full { IfErr result (λ why. IsFull why recorded.new) }
-    ensures same { OnErr result (recorded.new ≡ recorded.old) }
-{
-    match recorded.record(alloc, event) {
-        Ok(_) => Ok(()),
-        Err((why, _)) => Err(why),
-    }
-}
-
-/// Has the harts of a recorded host take turns. The journal keeps them as one item if each retires an instruction.
-fn do_turns<M: PagedMemory + Drop>(
-    alloc: Global,
-    run: Run,
-    recorded: &mut Recorded<M>,
-) -> Result<(), RecordError>
+/// Has the harts of a host take turns.
+fn do_turns<R: Recorder>(alloc: Global, run: Run, recorder: &mut R) -> Result<(), ReplayError>
     requires { (1 ≤ run.harts) × (run.harts ≤ 8) }
-    ensures done { OnOk result (Records recorded.old (steps_from run.first run.harts run.count) recorded.new) }
-    ensures room { IfErr result (λ why. LacksRoom why recorded.old (length (steps_from run.first run.harts run.count))) }
-    ensures full { IfErr result (λ why. IsFull why recorded.new) }
-    ensures more { OnErr result (HasMore recorded.old recorded.new) }
+    ensures done { OnOk result (Records (R.recording recorder.old) (steps_from run.first run.harts run.count)
+        (R.recording recorder.new)) }
+    ensures room { IfErr result (λ why. LacksRoom why (R.recording recorder.old)
+        (length (steps_from run.first run.harts run.count))) }
+    ensures full { IfErr result (λ why. IsFull why (R.recording recorder.new)) }
+    ensures more { OnErr result (HasMore (R.recording recorder.old) (R.recording recorder.new)) }
 {
     let harts = run.harts;
     let mut turn = run.first;
     let mut left = run.count;
     while left > 0 {
-        let made = do_some(alloc, turn, harts, left, recorded)?;
+        let made = recorder.turns(alloc, turn, harts, left)?;
         turn = turn_behind(turn, made, harts);
         left -= made;
     }
     Ok(())
-}
-
-/// Has harts take turns, from turn `turn` on: at least one of this many. Returns how many they took.
-#[tactic(auto, using(crate::proofs::Replayed::of_turns, crate::proofs::Replayed::lacks_room, crate::proofs::Replayed::is_full))]
-fn do_some<M: PagedMemory + Drop>(
-    alloc: Global,
-    turn: u32,
-    harts: u32,
-    count: u32,
-    recorded: &mut Recorded<M>,
-) -> Result<u32, RecordError>
-    requires harts { (1 ≤ harts) × (harts ≤ 8) }
-    requires some { 1 ≤ count }
-    ensures done { IfOk result (λ made. Records recorded.old (steps_from turn harts made) recorded.new) }
-    ensures some { IfOk result (λ made. (1 ≤ made) × (made ≤ count)) }
-    ensures room { IfErr result (λ why. LacksRoom why recorded.old 1) }
-    ensures full { IfErr result (λ why. IsFull why recorded.new) }
-    ensures same { OnErr result (recorded.new ≡ recorded.old) }
-{
-    let made = recorded.record_turns(alloc, turn, harts, count)?;
-    Ok(made)
 }
 
 /// The number of the turn that comes `made` turns after turn `turn`; if it is too large, that of an earlier turn of the

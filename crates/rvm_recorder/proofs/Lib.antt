@@ -2,6 +2,9 @@ pub mod StepRuns
 pub mod Spans
 pub mod InRounds
 pub mod Replays
+pub mod Recorders
+pub mod Reopening
+pub mod Pasts
 pub mod Retired
 pub mod Slices
 pub mod Slicing

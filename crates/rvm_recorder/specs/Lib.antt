@@ -5,6 +5,9 @@ pub mod Passing
 pub mod Told
 pub mod Replay
 pub mod History
+pub mod Recorders
+pub mod Past
+pub mod Reopening
 pub mod Keeping
 pub mod Errors
 pub mod Slices

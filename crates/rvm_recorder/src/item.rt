@@ -1,6 +1,6 @@
 //! The items of a journal: entries, runs of steps, and rounds.
 
-ghost use Rattle.std.specs.Prelude.{◌≡◌, ◌+◌, ◌++◌, ◌∷◌, ◌*◌, ◌^◌, ◌<◌, ◌≤◌, [], IfErr, IfOk, IfSome, vec_capacity, vec_len};
+ghost use Rattle.std.specs.Prelude.{◌≡◌, ◌+◌, ◌++◌, ◌∷◌, ◌*◌, ◌^◌, ◌<◌, ◌≤◌, [], length, IfErr, IfOk, IfSome, vec_capacity, vec_len};
 ghost use Rattle.rvm_recorder.specs.Items.{all_of, dry_entry, entries_at, rounds_of, steps_in_turn};
 ghost use Rattle.rvm_recorder.specs.Rounds.{GoesOn};
 
@@ -79,6 +79,18 @@ impl Item {
             Kind::Entry(entry) => ItemRef::Entry(entry),
             Kind::Steps(steps) => ItemRef::Steps(*steps),
             Kind::Rounds(rounds) => ItemRef::Rounds(*rounds),
+        }
+    }
+
+    /// Returns how many entries the item has.
+    #[tactic(auto, using(crate::proofs::StepRuns::steps_length, crate::proofs::InRounds::rounds_length))]
+    pub fn len(&self) -> u32
+        ensures { result ≡ length self.now }
+    {
+        match &self.kind {
+            Kind::Entry(_) => 1,
+            Kind::Steps(steps) => steps.count,
+            Kind::Rounds(rounds) => rounds.len(),
         }
     }
 

@@ -73,6 +73,13 @@ impl<M: PagedMemory + Drop> Journal<M> {
         self.items.as_slice()
     }
 
+    /// Proves that each reply and each frame is the one that the protocol gives at its place.
+    pub fn know_answers(&self)
+        ensures { IsReplay self.now.opening self.now.entries }
+    {
+        let _items = self.items();
+    }
+
     /// Returns how many entries there are.
     pub fn count(&self) -> u32
         ensures { result ≡ length self.now.entries }

@@ -8,6 +8,7 @@ ghost use Rattle.rvm_recorder.specs.Errors.{IsRecordError, IsReserveError};
 ghost use Rattle.rvm_recorder.specs.History.{IsRecorded, bytes_of, count_of, host_now, is_board, with_entries, with_room};
 ghost use Rattle.rvm_recorder.specs.Items.{all_of, entries_in, last_of, one_if, steps_in_turn, steps_of};
 ghost use Rattle.rvm_recorder.specs.Keeping.{CanBeKept};
+ghost use Rattle.rvm_recorder.specs.Reopening.{IsReopened};
 ghost use Rattle.rvm_message.specs.Exchanges.{dry_exchange, exchange, step_of_hart};
 ghost use Rattle.rvm_message.specs.Steps.{reply_to_step};
 
@@ -25,6 +26,7 @@ use rvm_mem::PagedMemory;
 use rvm_message::{Exchange, ExchangeRoom, HostEvent, HostReply, StepReply};
 use std::alloc::Global;
 use std::marker::Model;
+use std::snapshot::Snapshot;
 
 /// The most entries that a journal takes.
 pub const MAX_CAPACITY: u32 = 1048576;
@@ -111,6 +113,20 @@ impl<M: PagedMemory + Drop> Recorded<M> {
             capacity: _,
         } = self;
         host.into_guest()
+    }
+
+    /// Forgets the entries of the journal, which begins anew with the host as it is. The room for more entries stays.
+    pub(crate) fn reopen(&mut self)
+        ensures { IsReopened self.old self.new }
+    {
+        let Recorded {
+            host,
+            journal,
+            capacity: _,
+        } = self;
+        journal.opening = Snapshot::of(host);
+        journal.items.clear();
+        journal.count = 0;
     }
 
     /// Returns how many entries the journal has.

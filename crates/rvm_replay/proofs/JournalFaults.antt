@@ -36,7 +36,7 @@ never host hosts few there is = true≢false (sym (sized host hosts few there) �
 -- a journal that was refused, of the file with its index
 pub refused_at : (files : List JournalFile) (image : List ℕ) (i : ℕ) (fault : FileFault) (h : Header) (file : JournalFile)
     → header_number files i ≡ Some h → slice_get files i ≡ Some file
-    → IsFileFault fault None (Some h) file.bytes.items image → IsJournalsFault files image (File i fault)
+    → IsFileFault fault None 4294967295 (Some h) file.bytes.items image → IsJournalsFault files image (File i fault)
 refused_at files image i fault h file header_is file_is why =
     inr (record { header = h; file = file; header_is = header_is; file_is = file_is; refused = why })
 

@@ -1,5 +1,5 @@
 -- What the console showed, item by item.
-use Rattle.std.proofs.Common.{◌≡◌, ◌∙◌, ℕ, zero, suc, ◌+◌, ◌<◌, List, [], ◌∷◌, ◌++◌, append-nil, get_or, length, take, refl, ap}
+use Rattle.std.proofs.Common.{◌≡◌, ◌∙◌, ℕ, zero, suc, ◌+◌, ◌<◌, List, [], ◌∷◌, ◌++◌, append-nil, get_or, length, take, refl, sym, ap}
 use Rattle.std.proofs.lemmas.List.{take_more}
 use Rattle.std.proofs.lemmas.List.Concat.{flat_map-append}
 use Rattle.rvm_recorder.specs.Entries.{PlainEntry}
@@ -34,3 +34,9 @@ one_more items i x less is =
     ∙ ap console_of (all_push (take i items) (get_or items i x))
     ∙ flat_map-append taken_in (all_of (take i items)) (get_or items i x)
     ∙ ap (λ z. console_of (all_of (take i items)) ++ console_of z) is
+
+-- the bytes of more entries
+pub shown_more : (bytes more : List ℕ) (entries xs : List PlainEntry) → more ≡ bytes ++ console_of xs
+    → bytes ≡ console_of entries → more ≡ console_of (entries ++ xs)
+shown_more bytes more entries xs is so =
+    is ∙ ap (λ b. b ++ console_of xs) so ∙ sym (flat_map-append taken_in entries xs)

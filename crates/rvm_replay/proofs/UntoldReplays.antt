@@ -9,6 +9,7 @@ use Rattle.rvm_command.specs.Refusals.{refused, refused_of_script}
 use Rattle.rvm_debug.specs.declared.script.ScriptError.{ScriptError}
 use Rattle.rvm_journal.specs.Headers.{header_at}
 use Rattle.rvm_recorder.specs.History.{Recording, count_of}
+use Rattle.rvm_recorder.specs.Reopening.{most_replayed}
 use Rattle.rvm_refusal.specs.declared.refusal.Refusal.TheVariants.{LinkFault}
 use Rattle.rvm_replay.specs.Consoles.{console_of}
 use Rattle.rvm_replay.specs.FileFaults.{IsFileFault, fault_line}
@@ -21,12 +22,12 @@ on_error (Ok a) P told = tt
 on_error (Err e) P told = told
 
 -- what a guest sent was shown, or not
-module _ (r : Recording) (out out' : Option (List ℕ)) where
-  pub shown_untold : Appends out out' (console_of r.journal.entries)
-      → IsUntold (λ status before after. HasShownStatus status r out out' before after)
-  shown_untold shown = (0, replayed_line (count_of r), record { shown = shown; counted = refl })
+module _ (bytes : List ℕ) (count : ℕ) (out out' : Option (List ℕ)) where
+  pub shown_untold : Appends out out' bytes
+      → IsUntold (λ status before after. HasShownStatus status bytes count out out' before after)
+  shown_untold shown = (0, replayed_line count, record { shown = shown; counted = refl })
 
-  pub unwritten_untold : IsUntold (λ status before after. HasShownStatus status r out out' before after)
+  pub unwritten_untold : IsUntold (λ status before after. HasShownStatus status bytes count out out' before after)
   unwritten_untold = (1, refused_text (refused LinkFault) ++ codes "\n", refl)
 
 -- a session was refused for a guest
@@ -55,7 +56,7 @@ module _ (name : List ℕ) (n : ℕ) (session out out' : Option (List ℕ)) wher
 
 module _ (name : List ℕ) (most : Option ℕ) (journal image : List ℕ) (out out' : Option (List ℕ)) where
   -- a journal was refused
-  module _ (why : FileFault) (fault : IsFileFault why most (header_at journal) journal image) (same : out' ≡ out) where
+  module _ (why : FileFault) (fault : IsFileFault why most most_replayed (header_at journal) journal image) (same : out' ≡ out) where
     pub replay_untold : IsUntold (λ status before after. HasReplayStatus status name most journal image out out' before after)
     replay_untold = (1, fault_line name why, inl (record { why = why; fault = fault; reported = refl }, same))
 
@@ -65,18 +66,26 @@ module _ (name : List ℕ) (most : Option ℕ) (journal image : List ℕ) (out o
 
   -- the host of the journal did again what is wanted
   module _ (recording : Recording) (replay : IsReplay most journal image recording) where
-    shown_again : (status : ℕ) (before after : Option (List ℕ)) → HasShownStatus status recording out out' before after
+    shown_again : (status : ℕ) (before after : Option (List ℕ))
+        → HasShownStatus status (console_of recording.journal.entries) (count_of recording) out out' before after
         → HasReplayStatus status name most journal image out out' before after
     shown_again zero before after shown = record { recording = recording; replay = replay; shown = shown }
     shown_again (suc zero) before after told =
         inr (record { recording = recording; replay = replay; reported = told })
     shown_again (suc (suc n)) before after none = absurd none
 
-    pub replays_untold : {F : Type 0} (r : Result ℕ F)
-        → OnErr r (IsUntold (λ status before after. HasShownStatus status recording out out' before after))
+    pub replays_untold : {F : Type 0} (r : Result ℕ F) (bytes : List ℕ) (count : ℕ)
+        → bytes ≡ console_of recording.journal.entries → count ≡ count_of recording
+        → OnErr r (IsUntold (λ status before after. HasShownStatus status bytes count out out' before after))
         → OnErr r (IsUntold (λ status before after. HasReplayStatus status name most journal image out out' before after))
-    replays_untold (Ok s) untold = tt
-    replays_untold (Err e) (status, report, ended) = (status, report, shown_again status (Some []) (Some report) ended)
+    replays_untold (Ok s) bytes count bytes_are count_is untold = tt
+    replays_untold (Err e) bytes count bytes_are count_is (status, report, ended) = (
+      status,
+      report,
+      shown_again status (Some []) (Some report)
+          (subst (λ b. HasShownStatus status b (count_of recording) out out' (Some []) (Some report)) bytes_are
+          (subst (λ n. HasShownStatus status bytes n out out' (Some []) (Some report)) count_is ended)),
+    )
 
     answered_again : (session : Option (List ℕ)) (status : ℕ) (before after : Option (List ℕ))
         → HasAnswerStatus status name (guest_after recording) (count_of recording) session out out' before after
@@ -87,11 +96,16 @@ module _ (name : List ℕ) (most : Option ℕ) (journal image : List ℕ) (out o
         inr (record { recording = recording; replay = replay; unanswered = unanswered })
     answered_again session (suc (suc n)) before after none = absurd none
 
-    pub sessions_untold : {F : Type 0} (r : Result ℕ F) (session : Option (List ℕ))
-        → OnErr r (IsUntold (λ status before after.
-        HasAnswerStatus status name (guest_after recording) (count_of recording) session out out' before after))
+    pub sessions_untold : {F : Type 0} (r : Result ℕ F) (session : Option (List ℕ)) (guest : Option Guest) (count : ℕ)
+        → guest ≡ guest_after recording → count ≡ count_of recording
+        → OnErr r (IsUntold (λ status before after. HasAnswerStatus status name guest count session out out' before after))
         → OnErr r (IsUntold (λ status before after.
         HasSessionStatus status name most journal image session out out' before after))
-    sessions_untold (Ok s) session untold = tt
-    sessions_untold (Err e) session (status, report, ended) =
-        (status, report, answered_again session status (Some []) (Some report) ended)
+    sessions_untold (Ok s) session guest count guest_is count_is untold = tt
+    sessions_untold (Err e) session guest count guest_is count_is (status, report, ended) = (
+      status,
+      report,
+      answered_again session status (Some []) (Some report)
+          (subst (λ g. HasAnswerStatus status name g (count_of recording) session out out' (Some []) (Some report)) guest_is
+          (subst (λ n. HasAnswerStatus status name guest n session out out' (Some []) (Some report)) count_is ended)),
+    )

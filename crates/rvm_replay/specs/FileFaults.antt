@@ -44,21 +44,22 @@ IsGuestFault OtherImage guest file = IsWrongImage guest file
 IsGuestFault (BadImage why) guest file = IsBadImage why guest file
 IsGuestFault (BadJournal why) guest file = ⊥
 
--- this is wrong with a journal of these bytes, which has this header, or none, and with the file of its image. What is
--- wrong with it beside other journals is wrong with none alone
-abbrev pub IsFileFault : FileFault → (most : Option ℕ) → (header : Option Header) → (bytes image : List ℕ) → Type 0
-IsFileFault NoHeader most header bytes image = header ≡ None
-IsFileFault (SameHost letter) most header bytes image = ⊥
-IsFileFault SecondGuest most header bytes image = ⊥
-IsFileFault OtherHosts most header bytes image = ⊥
-IsFileFault OtherWorld most header bytes image = ⊥
-IsFileFault (OtherProcess letter) most header bytes image = ⊥
-IsFileFault MetOtherWorld most header bytes image = ⊥
-IsFileFault NoImage most header bytes image = IsSomeAnd header (λ h. IsNoImage h.guest image)
-IsFileFault OtherImage most header bytes image = IsSomeAnd header (λ h. IsWrongImage h.guest image)
-IsFileFault (BadImage why) most header bytes image = IsSomeAnd header (λ h. IsBadImage why h.guest image)
-IsFileFault (BadJournal why) most header bytes image =
-    IsSomeAnd header (λ h. IsJournalFault why most h.hosts h.host (lines bytes) 4294967295)
+-- this is wrong with a journal of these bytes, which has this header, or none, and with the file of its image, where its
+-- host takes so many events. What is wrong with it beside other journals is wrong with none alone
+abbrev pub IsFileFault : FileFault → (most : Option ℕ) → (capacity : ℕ) → (header : Option Header) → (bytes image : List ℕ)
+    → Type 0
+IsFileFault NoHeader most capacity header bytes image = header ≡ None
+IsFileFault (SameHost letter) most capacity header bytes image = ⊥
+IsFileFault SecondGuest most capacity header bytes image = ⊥
+IsFileFault OtherHosts most capacity header bytes image = ⊥
+IsFileFault OtherWorld most capacity header bytes image = ⊥
+IsFileFault (OtherProcess letter) most capacity header bytes image = ⊥
+IsFileFault MetOtherWorld most capacity header bytes image = ⊥
+IsFileFault NoImage most capacity header bytes image = IsSomeAnd header (λ h. IsNoImage h.guest image)
+IsFileFault OtherImage most capacity header bytes image = IsSomeAnd header (λ h. IsWrongImage h.guest image)
+IsFileFault (BadImage why) most capacity header bytes image = IsSomeAnd header (λ h. IsBadImage why h.guest image)
+IsFileFault (BadJournal why) most capacity header bytes image =
+    IsSomeAnd header (λ h. IsJournalFault why most h.hosts h.host (lines bytes) capacity capacity)
 
 -- what is reported of it
 abbrev pub fault_text : FileFault → List ℕ

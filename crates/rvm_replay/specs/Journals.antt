@@ -5,13 +5,14 @@ use Rattle.sha2.specs.Sha256.{sha256}
 use Rattle.rvm_board.specs.Guest.{GuestState}
 use Rattle.rvm_guest.specs.Valid.{is_valid}
 use Rattle.rvm_command.specs.GuestFiles.{IsGuestIn}
-use Rattle.rvm_host.specs.Hosts.{new_host}
+use Rattle.rvm_host.specs.Hosts.{PlainHost, new_host}
 use Rattle.rvm_recorder.specs.History.{Recording}
+use Rattle.rvm_recorder.specs.Recorders.{events_in}
 use Rattle.rvm_recorder.specs.Replay.{IsReplay}
 use Rattle.rvm_journal.specs.declared.header.Header.{Header}
 use Rattle.rvm_journal.specs.declared.header.Image.{Image}
 use Rattle.rvm_journal.specs.Headers.{header_at}
-use Rattle.rvm_journal.specs.Replaying.{AreFirstTold, events_in}
+use Rattle.rvm_journal.specs.Replaying.{AreFirstTold}
 use Rattle.rvm_journal.specs.Told.{Told, told_in}
 use Rattle.rvm_replay.specs.declared.file.JournalFile.{JournalFile}
 
@@ -21,6 +22,12 @@ IsGuestNamed None file guest = guest ≡ None
 IsGuestNamed (Some i) file None = ⊥
 IsGuestNamed (Some i) file (Some g) =
     (sha256 file ≡ i.digest) × IsGuestIn i.raw i.harts i.pages file g.guest × (is_valid g.guest ≡ true)
+
+-- this is the host with which a journal with this header begins, before it has done anything
+pub record IsOpening (header : Header) (image : List ℕ) (host : PlainHost) : Type 0 where
+  pub guest : Option GuestState
+  pub guest_is : IsGuestNamed header.guest image guest
+  pub host_is : host ≡ new_host guest header.host header.hosts 4096 3
 
 -- a host began as the header of its journal says, with this guest or none, and did what the journal tells; each reply and
 -- each frame is the one that the protocol gives at its place

@@ -9,12 +9,18 @@ use Rattle.rvm_debug.specs.declared.script.ScriptError.{ScriptError}
 use Rattle.rvm_journal.specs.declared.header.Header.{Header}
 use Rattle.rvm_journal.specs.Headers.{header_at}
 use Rattle.rvm_protocol.specs.Modes.{guest_in}
+use Rattle.rvm_recorder.specs.Entries.{PlainEntry}
 use Rattle.rvm_recorder.specs.History.{Recording, count_of, host_now}
+use Rattle.rvm_recorder.specs.Reopening.{most_replayed}
 use Rattle.rvm_refusal.specs.declared.refusal.Refusal.TheVariants.{LinkFault}
 use Rattle.rvm_replay.specs.declared.file.FileFault.{FileFault}
 use Rattle.rvm_replay.specs.Consoles.{console_of}
 use Rattle.rvm_replay.specs.FileFaults.{IsFileFault, fault_line}
 use Rattle.rvm_replay.specs.Journals.{IsHostAfter}
+
+-- the guest that is at a host after what it recorded, if one is
+abbrev pub guest_after : Recording → Option Guest
+guest_after r = guest_in (host_now r).mode
 
 -- the host of a journal did again what is wanted of what the journal tells
 pub record IsReplay (most : Option ℕ) (journal image : List ℕ) (r : Recording) : Type 0 where
@@ -22,20 +28,30 @@ pub record IsReplay (most : Option ℕ) (journal image : List ℕ) (r : Recordin
   pub header_is : header_at journal ≡ Some header
   pub host : IsHostAfter most header journal image r
 
+-- so it is where this guest is at the host then, or none, the host did so many events, and an observer was shown what it
+-- answered
+pub record IsDone {O : Type 0} (shows : O → List PlainEntry → Type 0) (most : Option ℕ) (journal image : List ℕ)
+    (guest : Option Guest) (count : ℕ) (observer : O) : Type 0 where
+  pub recording : Recording
+  pub replay : IsReplay most journal image recording
+  pub guest_is : guest ≡ guest_after recording
+  pub count_is : count ≡ count_of recording
+  pub shown : shows observer recording.journal.entries
+
 -- a journal was refused, which was reported
 pub record IsRefused (name : List ℕ) (most : Option ℕ) (journal image : List ℕ) (before after : Option (List ℕ)) : Type 0 where
   pub why : FileFault
-  pub fault : IsFileFault why most (header_at journal) journal image
+  pub fault : IsFileFault why most most_replayed (header_at journal) journal image
   pub reported : Appends before after (fault_line name why)
 
 -- the line that reports how many events were replayed
 abbrev pub replayed_line : (count : ℕ) → List ℕ
 replayed_line n = codes "replayed " ++ decimal n ++ codes " events" ++ codes "\n"
 
--- what the guest of a recording sent was written, and how many events it has was reported
-pub record IsShown (r : Recording) (before after errors_before errors_after : Option (List ℕ)) : Type 0 where
-  pub shown : Appends before after (console_of r.journal.entries)
-  pub counted : Appends errors_before errors_after (replayed_line (count_of r))
+-- these bytes were written, and that there were so many events was reported
+pub record IsShown (bytes : List ℕ) (count : ℕ) (before after errors_before errors_after : Option (List ℕ)) : Type 0 where
+  pub shown : Appends before after bytes
+  pub counted : Appends errors_before errors_after (replayed_line count)
 
 -- the host of a journal did again what is wanted, what its guest sent was written, and how many events there were was
 -- reported
@@ -43,7 +59,7 @@ pub record IsShownAgain (most : Option ℕ) (journal image : List ℕ)
     (before after errors_before errors_after : Option (List ℕ)) : Type 0 where
   pub recording : Recording
   pub replay : IsReplay most journal image recording
-  pub shown : IsShown recording before after errors_before errors_after
+  pub shown : IsShown (console_of recording.journal.entries) (count_of recording) before after errors_before errors_after
 
 -- the host of a journal did again what is wanted, and what its guest sent could not be written, which was reported
 pub record IsUnwritten (most : Option ℕ) (journal image : List ℕ) (errors_before errors_after : Option (List ℕ)) : Type 0 where
@@ -57,10 +73,6 @@ abbrev pub IsNotShown : (name : List ℕ) → (most : Option ℕ) → (journal i
 IsNotShown name most journal image before after errors_before errors_after =
     (IsRefused name most journal image errors_before errors_after × (after ≡ before))
     ⊎ IsUnwritten most journal image errors_before errors_after
-
--- the guest that is at a host after what it recorded, if one is
-abbrev pub guest_after : Recording → Option Guest
-guest_after r = guest_in (host_now r).mode
 
 -- a session was answered to its end for the guest that is at a host
 abbrev pub IsAnswered : Option Guest → (session before after : Option (List ℕ)) → Type 0
@@ -105,12 +117,13 @@ IsNoSession name most journal image session before after errors_before errors_af
     (IsRefused name most journal image errors_before errors_after × (after ≡ before))
     ⊎ HasNotAnswered name most journal image session before after errors_before errors_after
 
--- by its status, what the guest of a recording sent was written, or that failed, and that was reported
-abbrev pub HasShownStatus : (status : ℕ) → Recording → (before after errors_before errors_after : Option (List ℕ)) → Type 0
-HasShownStatus zero r before after errors_before errors_after = IsShown r before after errors_before errors_after
-HasShownStatus (suc zero) r before after errors_before errors_after =
+-- by its status, these bytes were written, or that failed, and that was reported
+abbrev pub HasShownStatus : (status : ℕ) → (bytes : List ℕ) → (count : ℕ)
+    → (before after errors_before errors_after : Option (List ℕ)) → Type 0
+HasShownStatus zero bytes n before after errors_before errors_after = IsShown bytes n before after errors_before errors_after
+HasShownStatus (suc zero) bytes n before after errors_before errors_after =
     IsTold (refused LinkFault) errors_before errors_after
-HasShownStatus (suc (suc n)) r before after errors_before errors_after = ⊥
+HasShownStatus (suc (suc k)) bytes n before after errors_before errors_after = ⊥
 
 -- by its status, how a replay ended that shows what the guest sent
 abbrev pub HasReplayStatus : (status : ℕ) → (name : List ℕ) → (most : Option ℕ) → (journal image : List ℕ)

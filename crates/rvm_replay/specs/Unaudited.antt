@@ -78,7 +78,7 @@ pub record IsRefusedAt (files : List JournalFile) (image : List ℕ) (index : �
   pub file : JournalFile
   pub header_is : header_number files index ≡ Some header
   pub file_is : slice_get files index ≡ Some file
-  pub refused : IsFileFault fault None (Some header) file.bytes.items image
+  pub refused : IsFileFault fault None 4294967295 (Some header) file.bytes.items image
 
 -- why journals are not audited: their headers, one of them, or memory ran out
 abbrev pub IsJournalsFault : List JournalFile → (image : List ℕ) → JournalsFault → Type 0

@@ -1,4 +1,4 @@
-//! What the console of a host showed, by its journal.
+//! What the guest of a host sent, by its journal.
 
 ghost use Rattle.std.specs.Prelude.{◌≡◌, OnOk};
 ghost use Rattle.std.specs.Io.KnownBytes.{Appends};
@@ -8,12 +8,37 @@ ghost use Rattle.rvm_recorder.specs.Items.{all_of};
 
 use rvm_board::{BoardEvent, BoardReply};
 use rvm_message::{Command, ExchangeRef, HostEvent, HostReply};
-use rvm_recorder::{Entry, Item, ItemRef};
+use rvm_recorder::{Entry, Item, ItemRef, Observer};
 use rvm_refusal::LinkFault;
+use std::alloc::{AllocError, Global};
 use std::io::Write;
 
+/// The bytes that the guest of a host sent: those that drains took.
+#[derive(Drop)]
+pub(crate) struct Console {
+    pub bytes: Vec<u8>,
+}
+
+impl Observer for Console {
+    ghost shows = { λ c entries. c.bytes.items ≡ console_of entries };
+
+    fn begin(alloc: Global) -> Console {
+        Console {
+            bytes: Vec::new(alloc),
+        }
+    }
+
+    #[tactic(auto, using(crate::proofs::Showing::shown_more))]
+    fn observe(&mut self, _alloc: Global, items: &[Item]) -> Result<(), AllocError> {
+        match write_console(&mut self.bytes, items) {
+            Ok(()) => Ok(()),
+            Err(_) => Err(AllocError),
+        }
+    }
+}
+
 /// Writes the bytes that the drains among these entries took, in order. `LinkFault` if a write fails.
-pub(crate) fn write_console<O: Write>(output: &mut O, items: &[Item]) -> Result<(), LinkFault>
+fn write_console<O: Write>(output: &mut O, items: &[Item]) -> Result<(), LinkFault>
     ensures { OnOk result (Appends (O.contents output.old) (O.contents output.new) (console_of (all_of items.now))) }
 {
     for item in items {

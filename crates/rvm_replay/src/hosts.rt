@@ -1,17 +1,18 @@
 //! The host that does again what its journal tells.
 
-ghost use Rattle.std.specs.Prelude.{◌≡◌, ◌≢◌, ◌≤◌, [], false, IfErr, IfOk, IfSome, OnOk, Option, Some, true};
+ghost use Rattle.std.specs.Prelude.{◌≡◌, ◌≢◌, ◌≤◌, ℕ, List, [], false, IfErr, IfOk, IfSome, None, OnOk, Option, Some, option_map, true};
 ghost use Rattle.sha2.specs.Sha256.{sha256};
-ghost use Rattle.rvm_debug.specs.Words.{lines};
+ghost use Rattle.rvm_board.specs.Guest.{GuestState};
 ghost use Rattle.rvm_host.specs.Hosts.{is_sized, new_host};
 ghost use Rattle.rvm_journal.specs.declared.header.Image.{Image};
 ghost use Rattle.rvm_journal.specs.Headers.{IsRanged, IsSized, header_at};
-ghost use Rattle.rvm_journal.specs.Replaying.{IsJournalFault, IsReplayedTo};
-ghost use Rattle.rvm_recorder.specs.Replay.{IsReplay as AreAnswers};
-ghost use Rattle.rvm_replay.specs.declared.file.FileFault.TheVariants.{NoHeader};
+ghost use Rattle.rvm_journal.specs.declared.replay.JournalFault.TheVariants as fault;
+ghost use Rattle.rvm_recorder.specs.History.{count_of};
+ghost use Rattle.rvm_recorder.specs.Reopening.{most_replayed};
+ghost use Rattle.rvm_replay.specs.declared.file.FileFault.TheVariants.{Journal, NoHeader};
 ghost use Rattle.rvm_replay.specs.FileFaults.{IsFileFault, IsGuestFault, IsOtherImage};
-ghost use Rattle.rvm_replay.specs.Journals.{IsGuestNamed, IsHostAfter};
-ghost use Rattle.rvm_replay.specs.Replays.{IsReplay};
+ghost use Rattle.rvm_replay.specs.Journals.{IsGuestNamed, IsHostAfter, IsHostOf, IsOpening};
+ghost use Rattle.rvm_replay.specs.Replays.{IsDone, guest_after};
 
 use crate::file::FileFault;
 use rvm_arguments::GuestArguments;
@@ -21,93 +22,143 @@ use rvm_guest::valid_guest;
 use rvm_host::Host;
 use rvm_journal::{Header, Image, JournalFault, read_header, replay_journal};
 use rvm_mem::{MAX_PAGES, PagedMemory};
-use rvm_recorder::Recorded;
+use rvm_recorder::{Observer, Recorded, Recorder, Replayed};
 use sha2::{Digest, Sha256};
 use std::alloc::Global;
 
 /// The version of the streams between host processes.
 const STREAM_VERSION: u32 = 3;
 
-/// Makes the host of a journal with these bytes, and has it do what the journal tells: its first `most` events, or all.
-/// `image` is the file of the image with which the host began, if it began with a guest.
-pub(crate) fn host_of_journal<M: PagedMemory + Drop>(
+/// What is left of a host that did again what its journal tells.
+#[derive(Drop)]
+pub(crate) struct Done<M: PagedMemory + Drop, O: Drop> {
+    /// The whole guest, if it is at the host then.
+    pub guest: Option<Debugged<M>>,
+    /// How many events the host did.
+    pub count: u64,
+    /// The observer, which was shown all entries.
+    pub observer: O,
+}
+
+/// Makes the host of a journal with these bytes, has it do what the journal tells, its first `most` events, or all, and
+/// shows an observer what it answers.
+pub(crate) fn host_of_journal<M: PagedMemory + Drop, O: Observer + Drop>(
     alloc: Global,
     journal: &[u8],
     image: &[u8],
     most: Option<u32>,
-) -> Result<Recorded<M>, FileFault>
-    ensures host { IfOk result (IsReplay most journal.now image.now) }
-    ensures fault { IfErr result (λ why. IsFileFault why most (header_at journal.now) journal.now image.now) }
+) -> Result<Done<M, O>, FileFault>
+    ensures host { IfOk result (λ d. IsDone O.shows most journal.now image.now
+        (option_map (λ (g : GuestState). g.guest) d.guest) d.count d.observer) }
+    ensures fault { IfErr result (λ why. IsFileFault why most most_replayed (header_at journal.now) journal.now image.now) }
 {
-    match read_header(journal) {
-        Some(header) => replay_bytes(alloc, &header, journal, image, most),
-        None => Err(FileFault::NoHeader),
+    let Some(header) = read_header(journal) else {
+        return Err(FileFault::NoHeader);
+    };
+    let host = opening_host::<M>(alloc, &header, image)?;
+    let mut replayed = Replayed::new(alloc, host);
+    match replay_bytes(alloc, &header, journal, image, most, &mut replayed) {
+        Ok(()) => finish(alloc, replayed),
+        Err(fault) => {
+            drop(replayed);
+            Err(fault)
+        }
     }
 }
 
-/// Makes the host of a journal with this header, and has it do what the journal tells: its first `most` events, or all.
-pub(crate) fn replay_bytes<M: PagedMemory + Drop>(
+/// What is left of a host that did again what is wanted of what its journal tells.
+fn finish<M: PagedMemory + Drop, O: Observer + Drop>(
+    alloc: Global,
+    replayed: Replayed<M, O>,
+) -> Result<Done<M, O>, FileFault>
+    ensures guest { IfOk result (λ d. option_map (λ (g : GuestState). g.guest) d.guest ≡ guest_after replayed) }
+    ensures count { IfOk result (λ d. d.count ≡ count_of replayed) }
+    ensures shown { IfOk result (λ d. O.shows d.observer replayed.journal.entries) }
+    ensures fault { IfErr result (λ why. why ≡ Journal fault.OutOfMemory) }
+{
+    let count = replayed.count();
+    match replayed.finish(alloc) {
+        Ok((guest, observer)) => Ok(Done {
+            guest,
+            count,
+            observer,
+        }),
+        Err(_) => Err(FileFault::Journal(JournalFault::OutOfMemory)),
+    }
+}
+
+/// Makes the host of a journal with this header, and has it do all that the journal tells.
+pub(crate) fn record_journal<M: PagedMemory + Drop>(
+    alloc: Global,
+    header: &Header,
+    bytes: &[u8],
+    image: &[u8],
+) -> Result<Recorded<M>, FileFault>
+    ensures host { IfOk result (IsHostOf header.now bytes.now image.now) }
+    ensures fault { IsRanged header.now
+        → IfErr result (λ why. IsFileFault why None 4294967295 (Some header.now) bytes.now image.now) }
+{
+    let host = opening_host::<M>(alloc, header, image)?;
+    let mut recorded = Recorded::uncapped(alloc, host);
+    match replay_bytes(alloc, header, bytes, image, None, &mut recorded) {
+        Ok(()) => Ok(recorded),
+        Err(fault) => {
+            drop(recorded);
+            Err(fault)
+        }
+    }
+}
+
+/// The host with which the journal with this header begins, before it has done anything.
+fn opening_host<M: PagedMemory + Drop>(
+    alloc: Global,
+    header: &Header,
+    image: &[u8],
+) -> Result<Host<M>, FileFault>
+    ensures host { IfOk result (IsOpening header.now image.now) }
+    ensures fault { IsRanged header.now → (most : Option ℕ) (capacity : ℕ) (bytes : List ℕ)
+        → IfErr result (λ why. IsFileFault why most capacity (Some header.now) bytes image.now) }
+{
+    let guest = guest_of(alloc, &header.guest, image)?;
+    open_host(guest, header.hosts, header.host)
+}
+
+/// Has a host that has just begun do what its journal tells: its first `most` events, or all.
+fn replay_bytes<R: Recorder>(
     alloc: Global,
     header: &Header,
     bytes: &[u8],
     image: &[u8],
     most: Option<u32>,
-) -> Result<Recorded<M>, FileFault>
-    ensures host { IfOk result (IsHostAfter most header.now bytes.now image.now) }
-    ensures fault { IsRanged header.now → IfErr result (λ why. IsFileFault why most (Some header.now) bytes.now image.now) }
+    recorder: &mut R,
+) -> Result<(), FileFault>
+    requires opening { IsOpening header.now image.now (R.recording recorder.old).journal.opening }
+    requires empty { (R.recording recorder.old).journal.entries ≡ [] }
+    ensures host { OnOk result (IsHostAfter most header.now bytes.now image.now (R.recording recorder.new)) }
+    ensures fault { IfErr result (λ why. IsFileFault why most (R.recording recorder.old).capacity (Some header.now)
+        bytes.now image.now) }
 {
-    let guest = guest_of(alloc, &header.guest, image)?;
-    let mut recorded = open_host(alloc, guest, header.hosts, header.host)?;
-    match replay_opened(alloc, header, bytes, most, &mut recorded) {
+    let _ = image;
+    match replay_journal(alloc, header.hosts, header.host, bytes, most, recorder) {
         Ok(()) => {
-            know_answers(&recorded);
-            Ok(recorded)
+            recorder.know_answers();
+            Ok(())
         }
-        Err(fault) => {
-            drop(recorded);
-            Err(FileFault::Journal(fault))
-        }
+        Err(fault) => Err(FileFault::Journal(fault)),
     }
 }
 
-/// Proves that each reply and each frame of a recorded host is the one that the protocol gives at its place.
-fn know_answers<M: PagedMemory + Drop>(recorded: &Recorded<M>)
-    ensures { AreAnswers recorded.now.journal.opening recorded.now.journal.entries }
-{
-    let _items = recorded.journal().items();
-}
-
-/// Has a host that has just begun do what its journal tells: its first `most` events, or all.
-fn replay_opened<M: PagedMemory + Drop>(
-    alloc: Global,
-    header: &Header,
-    bytes: &[u8],
-    most: Option<u32>,
-    recorded: &mut Recorded<M>,
-) -> Result<(), JournalFault>
-    requires empty { recorded.old.journal.entries ≡ [] }
-    requires room { recorded.old.capacity ≡ 4294967295 }
-    ensures done { OnOk result (IsReplayedTo most header.now.hosts header.now.host bytes.now recorded.old recorded.new) }
-    ensures fault { IfErr result (λ why. IsJournalFault why most header.now.hosts header.now.host (lines bytes.now)
-        4294967295) }
-{
-    replay_journal(alloc, header.hosts, header.host, bytes, most, recorded)
-}
-
-/// Makes a host with an empty journal, as a host process does. Fails if no world of so many hosts has such a host.
+/// Makes a host that has done nothing, as a host process does. Fails if no world of so many hosts has such a host.
 pub(crate) fn open_host<M: PagedMemory + Drop>(
-    alloc: Global,
     guest: Option<Debugged<M>>,
     hosts: u8,
     host: u8,
-) -> Result<Recorded<M>, FileFault>
-    ensures opening { IfOk result (λ r. r.journal.opening ≡ new_host guest host hosts 4096 3) }
-    ensures empty { IfOk result (λ r. r.journal.entries ≡ []) }
-    ensures room { IfOk result (λ r. r.capacity ≡ 4294967295) }
+) -> Result<Host<M>, FileFault>
+    ensures host { IfOk result (λ h. h ≡ new_host guest host hosts 4096 3) }
     ensures fault { IfErr result (λ why. (why ≡ NoHeader) × (is_sized host hosts 4096 3 ≡ false)) }
 {
     match Host::with_version(guest, host, hosts, MAX_PAGES as u16, STREAM_VERSION) {
-        Ok(host) => Ok(Recorded::uncapped(alloc, host)),
+        Ok(host) => Ok(host),
         Err(_) => Err(FileFault::NoHeader),
     }
 }

@@ -5,12 +5,11 @@ ghost use Rattle.rvm_command.specs.Refusals.{IsTold, refused};
 ghost use Rattle.rvm_refusal.specs.declared.refusal.Refusal.TheVariants as refusal;
 ghost use Rattle.rvm_replay.specs.Replays.{HasReplayStatus, HasShownStatus, IsNotShown, IsShown, IsShownAgain, IsUntold};
 
-use crate::console_of_journal::write_console;
+use crate::console_of_journal::Console;
 use crate::hosts::host_of_journal;
 use crate::report::report_fault;
 use rvm_command::refused::{Refused, tell};
 use rvm_mem::PagedMemory;
-use rvm_recorder::Recorded;
 use rvm_refusal::LinkFault;
 use std::alloc::Global;
 use std::io::Write;
@@ -40,10 +39,10 @@ pub fn replay_command<M: PagedMemory + Drop, O: Write, E: Write>(
     ensures untold { OnErr result (IsUntold (λ status before after. HasReplayStatus status name.now until journal.now
         image.now (O.contents output.old) (O.contents output.new) before after)) }
 {
-    match host_of_journal::<M>(alloc, journal, image, until) {
-        Ok(recorded) => {
-            let status = show(&recorded, output, errors);
-            drop(recorded);
+    match host_of_journal::<M, Console>(alloc, journal, image, until) {
+        Ok(done) => {
+            let status = show(&done.observer, done.count, output, errors);
+            drop(done);
             status
         }
         Err(fault) => {
@@ -53,23 +52,23 @@ pub fn replay_command<M: PagedMemory + Drop, O: Write, E: Write>(
     }
 }
 
-/// Writes what a host showed, and reports how many events it did, or that a write failed. Returns the status.
-fn show<M: PagedMemory + Drop, O: Write, E: Write>(
-    recorded: &Recorded<M>,
+/// Writes what a guest sent, and reports that its host did so many events, or that a write failed. Returns the status.
+fn show<O: Write, E: Write>(
+    console: &Console,
+    count: u64,
     output: &mut O,
     errors: &mut E,
 ) -> Result<u8, LinkFault>
     ensures status { IfOk result (λ status. (status ≡ 0) ⊎ (status ≡ 1)) }
-    ensures shown { IfOk result (λ status. status ≡ 0 → IsShown recorded.now
+    ensures shown { IfOk result (λ status. status ≡ 0 → IsShown console.now.bytes.items count
         (O.contents output.old) (O.contents output.new) (E.contents errors.old) (E.contents errors.new)) }
     ensures failed { IfOk result (λ status. status ≡ 1
         → IsTold (refused refusal.LinkFault) (E.contents errors.old) (E.contents errors.new)) }
-    ensures untold { OnErr result (IsUntold (λ status before after. HasShownStatus status recorded.now
+    ensures untold { OnErr result (IsUntold (λ status before after. HasShownStatus status console.now.bytes.items count
         (O.contents output.old) (O.contents output.new) before after)) }
 {
-    match write_console(output, recorded.journal().items()) {
+    match output.write_all(console.bytes.as_slice()) {
         Ok(()) => {
-            let count = recorded.count();
             writeln!(errors, "replayed {count} events")?;
             Ok(0)
         }

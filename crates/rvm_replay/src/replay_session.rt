@@ -1,12 +1,12 @@
 //! `rvmove replay` with a script: a session of the debugger with the guest that is at the host of a journal after what
 //! the host did.
 
-ghost use Rattle.std.specs.Prelude.{◌≡◌, ◌⊎◌, IfOk, OnErr, OnOk, Some};
+ghost use Rattle.std.specs.Prelude.{◌≡◌, ◌⊎◌, IfOk, OnErr, OnOk, Some, option_map};
 ghost use Rattle.std.specs.Io.Buffered.{writer_contents};
 ghost use Rattle.std.specs.Io.KnownBytes.{Appends};
 ghost use Rattle.rvm_command.specs.Flushed.{is_flushed};
-ghost use Rattle.rvm_recorder.specs.History.{count_of};
-ghost use Rattle.rvm_replay.specs.Replays.{HasAnswerStatus, HasAnswered, HasSessionStatus, IsAnswered, IsNoSession, IsSessionRefused, IsUnanswered, IsUntold, guest_after, no_guest_line};
+ghost use Rattle.rvm_board.specs.Guest.{GuestState};
+ghost use Rattle.rvm_replay.specs.Replays.{HasAnswerStatus, HasAnswered, HasSessionStatus, IsAnswered, IsNoSession, IsSessionRefused, IsUnanswered, IsUntold, no_guest_line};
 
 use crate::hosts::host_of_journal;
 use crate::report::report_fault;
@@ -14,7 +14,6 @@ use rvm_board::Debugged;
 use rvm_command::debug_command::answer;
 use rvm_command::refused::{Refused, tell};
 use rvm_mem::PagedMemory;
-use rvm_recorder::Recorded;
 use rvm_refusal::LinkFault;
 use std::alloc::Global;
 use std::io::{BufWriter, Read, Write};
@@ -49,8 +48,8 @@ pub fn replay_session<M: PagedMemory + Drop, R: Read, O: Write + Drop, E: Write>
         image.now (R.remaining reader.old) (writer_contents O.contents output.old)
         (writer_contents O.contents output.new) before after)) }
 {
-    match host_of_journal::<M>(alloc, journal, image, until) {
-        Ok(recorded) => session_at(alloc, name, recorded, reader, output, errors),
+    match host_of_journal::<M, ()>(alloc, journal, image, until) {
+        Ok(done) => session_at(alloc, name, done.guest, done.count, reader, output, errors),
         Err(fault) => {
             report_fault(name, fault, errors)?;
             Ok(1)
@@ -58,29 +57,30 @@ pub fn replay_session<M: PagedMemory + Drop, R: Read, O: Write + Drop, E: Write>
     }
 }
 
-/// Answers a session for the guest that is at a host, or reports that none is there. Returns the status.
+/// Answers a session for the guest that is at a host after this many events, or reports that none is there. Returns the
+/// status.
 fn session_at<M: PagedMemory + Drop, R: Read, O: Write + Drop, E: Write>(
     alloc: Global,
     name: &str,
-    recorded: Recorded<M>,
+    guest: Option<Debugged<M>>,
+    count: u64,
     reader: &mut R,
     output: &mut BufWriter<O>,
     errors: &mut E,
 ) -> Result<u8, LinkFault>
     ensures status { IfOk result (λ status. (status ≡ 0) ⊎ (status ≡ 1)) }
-    ensures answered { IfOk result (λ status. status ≡ 0 → IsAnswered (guest_after recorded) (R.remaining reader.old)
+    ensures answered { IfOk result (λ status. status ≡ 0 → IsAnswered (option_map (λ (g : GuestState). g.guest) guest) (R.remaining reader.old)
         (writer_contents O.contents output.old) (writer_contents O.contents output.new)) }
     ensures out { IfOk result (λ status. status ≡ 0 → is_flushed output.new) }
     ensures silent { IfOk result (λ status. status ≡ 0 → E.contents errors.new ≡ E.contents errors.old) }
-    ensures refused { IfOk result (λ status. status ≡ 1 → IsUnanswered name.now (guest_after recorded) (count_of recorded)
+    ensures refused { IfOk result (λ status. status ≡ 1 → IsUnanswered name.now (option_map (λ (g : GuestState). g.guest) guest) count
         (R.remaining reader.old) (writer_contents O.contents output.old) (writer_contents O.contents output.new)
         (E.contents errors.old) (E.contents errors.new)) }
-    ensures untold { OnErr result (IsUntold (λ status before after. HasAnswerStatus status name.now (guest_after recorded)
-        (count_of recorded) (R.remaining reader.old) (writer_contents O.contents output.old)
+    ensures untold { OnErr result (IsUntold (λ status before after. HasAnswerStatus status name.now (option_map (λ (g : GuestState). g.guest) guest)
+        count (R.remaining reader.old) (writer_contents O.contents output.old)
         (writer_contents O.contents output.new) before after)) }
 {
-    let count = recorded.count();
-    match recorded.into_guest() {
+    match guest {
         Some(guest) => session_of(alloc, guest, reader, output, errors),
         None => {
             report_no_guest(name, count, errors)?;
@@ -90,7 +90,7 @@ fn session_at<M: PagedMemory + Drop, R: Read, O: Write + Drop, E: Write>(
 }
 
 /// Reports that no guest is at a host after this many events.
-fn report_no_guest<E: Write>(name: &str, count: u32, errors: &mut E) -> Result<(), LinkFault>
+fn report_no_guest<E: Write>(name: &str, count: u64, errors: &mut E) -> Result<(), LinkFault>
     ensures { OnOk result (Appends (E.contents errors.old) (E.contents errors.new) (no_guest_line name.now count)) }
 {
     writeln!(errors, "{name}: no guest is here after {count} events")?;

@@ -7,7 +7,7 @@ ghost use Rattle.rvm_replay.specs.declared.file.JournalsFault.TheVariants.{File,
 
 use crate::file::{FileFault, JournalFile, JournalsFault};
 use crate::headers::{Wanted, header_number, hosts_of_world, index_of};
-use crate::hosts::{open_host, replay_bytes};
+use crate::hosts::{open_host, record_journal};
 use crate::progress::show_replay;
 use rvm_journal::JournalFault;
 use rvm_mem::PagedMemory;
@@ -108,8 +108,8 @@ fn idle_host<M: PagedMemory + Drop>(alloc: Global, hosts: u8, host: u8) -> Recor
     requires host { host < hosts }
     ensures { IsIdle hosts host result }
 {
-    match open_host(alloc, None, hosts, host) {
-        Ok(recorded) => recorded,
+    match open_host(None, hosts, host) {
+        Ok(host) => Recorded::uncapped(alloc, host),
         Err(_) => unreachable!(),
     }
 }
@@ -128,7 +128,7 @@ fn replay_file<M: PagedMemory + Drop>(
 {
     let header = header_number(files, index)?;
     let file = &files[index];
-    match replay_bytes(alloc, &header, &file.bytes, image, None) {
+    match record_journal(alloc, &header, &file.bytes, image) {
         Ok(recorded) => Ok(recorded),
         Err(fault) => Err(fault_at(index, fault)),
     }

@@ -6,24 +6,28 @@ use Rattle.rvm_replay.proofs.replay_session.replay_session.Goals as goal
 
 pub returns-in-Ok-clause-answered : goal.returns-in-Ok-clause-answered
 returns-in-Ok-clause-answered g c =
-    answered_if c.args.until c.args.journal.now c.args.image.now c.session_at.result c.in-Ok.recorded c.in-Ok.ensures.host
+    let done = c.in-Ok.ensures.host in
+    answered_if c.args.until c.args.journal.now c.args.image.now c.session_at.result done.recording done.replay
     c.args.name.now (writer_contents g.O.Write.contents c.args.output.now)
     (writer_contents g.O.Write.contents c.session_at.new.output) (g.E.Write.contents c.args.errors.now)
-    (g.E.Write.contents c.session_at.new.errors) (g.R.Read.remaining c.args.reader.now) c.session_at.ensures.answered
+    (g.E.Write.contents c.session_at.new.errors) (g.R.Read.remaining c.args.reader.now) _ done.guest_is c.session_at.ensures.answered
 
 pub returns-in-Ok-clause-refused : goal.returns-in-Ok-clause-refused
 returns-in-Ok-clause-refused g c =
-    unanswered_if c.args.until c.args.journal.now c.args.image.now c.session_at.result c.in-Ok.recorded c.in-Ok.ensures.host
+    let done = c.in-Ok.ensures.host in
+    unanswered_if c.args.until c.args.journal.now c.args.image.now c.session_at.result done.recording done.replay
     c.args.name.now (writer_contents g.O.Write.contents c.args.output.now)
     (writer_contents g.O.Write.contents c.session_at.new.output) (g.E.Write.contents c.args.errors.now)
-    (g.E.Write.contents c.session_at.new.errors) (g.R.Read.remaining c.args.reader.now) c.session_at.ensures.refused
+    (g.E.Write.contents c.session_at.new.errors) (g.R.Read.remaining c.args.reader.now) _ done.guest_is c.in-Ok.done.count done.count_is
+    c.session_at.ensures.refused
 
 pub returns-in-Ok-clause-untold : goal.returns-in-Ok-clause-untold
 returns-in-Ok-clause-untold g c =
+    let done = c.in-Ok.ensures.host in
     sessions_untold c.args.name.now c.args.until c.args.journal.now c.args.image.now
     (writer_contents g.O.Write.contents c.args.output.now) (writer_contents g.O.Write.contents c.session_at.new.output)
-    c.in-Ok.recorded c.in-Ok.ensures.host c.session_at.result (g.R.Read.remaining c.args.reader.now)
-    c.session_at.ensures.untold
+    done.recording done.replay c.session_at.result (g.R.Read.remaining c.args.reader.now) _ c.in-Ok.done.count
+    done.guest_is done.count_is c.session_at.ensures.untold
 
 pub returns-in_err-report_fault-in-Err-clause-untold : goal.returns-in_err-report_fault-in-Err-clause-untold
 returns-in_err-report_fault-in-Err-clause-untold g c =

@@ -22,5 +22,5 @@ returns-in-Err-clause-fault g c =
     (refused_at c.args.files.now c.args.image.now c.args.index c.in-Err.fault c.in_ok-header.header c.index-files-index.result
     c.in_ok-header.ensures.header
     (slice_get-get_or c.args.files.now c.args.index c.index-files-index.result c.requires ∙ ap Some (sym c.index-files-index.is))
-    (subst (λ (bytes : List ℕ). IsFileFault c.in-Err.fault None (Some c.in_ok-header.header) bytes c.args.image.now)
+    (subst (λ (bytes : List ℕ). IsFileFault c.in-Err.fault None 4294967295 (Some c.in_ok-header.header) bytes c.args.image.now)
     c.deref.ensures.value (c.in-Err.ensures.fault c.in_ok-header.ensures.range)))
