@@ -8,7 +8,7 @@ use Rattle.rvm_recorder.specs.Entries.{PlainEntry}
 use Rattle.rvm_recorder.specs.Items.{all_of}
 use Rattle.rvm_recorder.proofs.Spans.{drop_all_of, drop_drop, next_within}
 use Rattle.rvm_protocol.specs.Pages.{put}
-use Rattle.rvm_audit.specs.declared.part.Part.{Part}
+use Rattle.rvm_audit.specs.PlainParts.{PlainPart}
 use Rattle.rvm_audit.specs.declared.part.Place.{Place}
 use Rattle.rvm_audit.specs.Parts.{IsAt, entries_in, place_at, taken}
 
@@ -24,13 +24,13 @@ abbrev pub behind : List Place → (host : ℕ) → Place → (n : ℕ) → List
 behind places host place n = set places host (next_place place n)
 
 -- the parts were taken up to these places, and this is the part of one host, with its place
-pub record OnePart (parts : List Part) (places : List Place) (host : ℕ) (part : Part) (place : Place) : Type 0 where
+pub record OnePart (parts : List PlainPart) (places : List Place) (host : ℕ) (part : PlainPart) (place : Place) : Type 0 where
   pub long : length places ≡ length parts
-  pub each : (x : ℕ) (other : Part) → slice_get parts x ≡ Some other → IsAt other (place_at places x)
+  pub each : (x : ℕ) (other : PlainPart) → slice_get parts x ≡ Some other → IsAt other (place_at places x)
   pub here : slice_get parts host ≡ Some part
   pub place_is : place ≡ place_at places host
 
-module _ (parts : List Part) (places : List Place) (host : ℕ) (part : Part) (place : Place)
+module _ (parts : List PlainPart) (places : List Place) (host : ℕ) (part : PlainPart) (place : Place)
     (one : OnePart parts places host part place) where
   pub at_place : IsAt part place
   at_place = subst (λ (k : Place). IsAt part k) (sym one.place_is) (one.each host part one.here)
@@ -94,12 +94,12 @@ module _ (parts : List Part) (places : List Place) (host : ℕ) (part : Part) (p
           ∙ ap (λ k. drop (place.entries + k) (entries_in part)) (sym n_is);
     }
 
-    pub at_each : (x : ℕ) (other : Part) → slice_get parts x ≡ Some other → IsAt other (place_at now x)
+    pub at_each : (x : ℕ) (other : PlainPart) → slice_get parts x ≡ Some other → IsAt other (place_at now x)
     at_each x other is = elim (cases_eq x host) [
       | inl same ↦
           (let part_is : part ≡ other = same_Some part other (sym one.here ∙ ap (slice_get parts) (sym same) ∙ is) in
           subst (λ (k : Place). IsAt other k) (sym (ap (place_at now) same ∙ own))
-          (subst (λ (q : Part). IsAt q next) part_is at_next))
+          (subst (λ (q : PlainPart). IsAt q next) part_is at_next))
       | inr ne ↦ subst (λ (k : Place). IsAt other k) (sym (other_place x ne)) (one.each x other is)
     ]
 

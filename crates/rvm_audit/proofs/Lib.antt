@@ -11,6 +11,7 @@ pub mod Guests
 pub mod Examples
 mod ExamplesOfCuts
 pub mod Spellings
+pub mod Stretched
 pub mod Commands
 pub mod Merges
 pub mod Taken
@@ -20,6 +21,7 @@ pub mod Lists
 pub mod Passages
 pub mod Kept
 pub mod Passed
+pub mod Outlined
 pub mod OrderLines
 mod Pieces
 pub mod Two

@@ -1,6 +1,6 @@
 -- The parts of a list of journals, and how an audit of them ends.
-use Rattle.std.proofs.Common.{◌≡◌, ◌∙◌, ℕ, zero, suc, ◌+◌, ◌^◌, ◌<◌, ◌≤◌, Bool, true, false, List, [], ◌∷◌, ◌++◌, get_or, length, length-append, Option, None, Some, refl, sym, ap, subst, arith, inl, inr}
-use Rattle.std.specs.Prelude.{MatchOption, is_some, slice_get}
+use Rattle.std.proofs.Common.{◌≡◌, ◌∙◌, ℕ, zero, suc, ◌+◌, ◌^◌, ◌<◌, ◌≤◌, List, [], ◌∷◌, ◌++◌, get_or, length, length-append, Some, refl, sym, ap, subst, arith, inl, inr}
+use Rattle.std.specs.Prelude.{slice_get}
 use Rattle.std.proofs.lemmas.Option.{same_Some}
 use denote.Ref.{Bor}
 use Rattle.rvm_recorder.specs.Entries.{PlainEntry}
@@ -8,10 +8,8 @@ use Rattle.rvm_recorder.specs.History.{History}
 use Rattle.rvm_core.specs.declared.event.Event.{Event}
 use Rattle.rvm_audit.specs.Orders.{IsDeadEnd, IsOrder, Journals, cut}
 use Rattle.rvm_audit.proofs.Gets.{get_last}
-use Rattle.rvm_audit.specs.Audits.{ArePartsOf, entries_of, histories_of}
-use Rattle.rvm_audit.specs.Cuts.{AreContradicted, AreExplained, marked}
-use Rattle.rvm_audit.specs.Passing.{HasPassed}
-use Rattle.rvm_audit.specs.declared.part.Part.{Part}
+use Rattle.rvm_audit.specs.Audits.{ArePartsOf, histories_of}
+use Rattle.rvm_audit.specs.PlainParts.{PlainPart}
 use Rattle.rvm_audit.specs.declared.part.Place.{Place}
 use Rattle.rvm_audit.specs.ListOrders.{journals_of, no_history}
 use Rattle.rvm_audit.specs.Parts.{AreOf, AreSized, IsOf, IsSized, taken}
@@ -23,19 +21,19 @@ journal_at [] x journal is = cc
 journal_at (b ∷ journals) zero journal is = ap (λ (c : Bor History). c.now) (same_Some b journal is)
 journal_at (b ∷ journals) (suc x) journal is = journal_at journals x journal is
 
-as_many : (journals : List (Bor History)) → length (histories_of journals) ≡ length journals
+pub as_many : (journals : List (Bor History)) → length (histories_of journals) ≡ length journals
 as_many [] = refl
 as_many (b ∷ journals) = ap suc (as_many journals)
 
 -- a list with one more part
-pub one_longer : (parts more : List Part) (part : Part) (host : ℕ) → more ≡ parts ++ part ∷ [] → length parts ≡ host
+pub one_longer : (parts more : List PlainPart) (part : PlainPart) (host : ℕ) → more ≡ parts ++ part ∷ [] → length parts ≡ host
     → length more ≡ host + 1
 one_longer parts more part host more_is long =
-    let size = ap (λ (ps : List Part). length ps) more_is in
+    let size = ap (λ (ps : List PlainPart). length ps) more_is in
     let one = length-append parts (part ∷ []) in
     omega (arith, size, one, long)
 
-pub one_part : (journals : List (Bor History)) (parts more : List Part) (host : ℕ) (journal : Bor History) (part : Part)
+pub one_part : (journals : List (Bor History)) (parts more : List PlainPart) (host : ℕ) (journal : Bor History) (part : PlainPart)
     → more ≡ parts ++ part ∷ [] → ArePartsOf (histories_of journals) parts → length parts ≡ host
     → slice_get journals host ≡ Some journal → IsOf journal.now.opening journal.now.entries part
     → length part.items.now < 2 ^ 63 → length journal.now.entries < 2 ^ 32
@@ -46,7 +44,8 @@ one_part journals parts more host journal part more_is are long here is_of few_i
     sized : IsSized part
     sized = record {
       items = few_items;
-      entries = subst (λ (xs : List PlainEntry). length xs < 2 ^ 32) (sym is_of.entries_are) few_entries;
+      entries = subst (λ (xs : List PlainEntry). length xs < 2 ^ 64) (sym is_of.entries_are)
+          (let few = few_entries in omega (arith, few));
     }
 
     one_more : ArePartsOf (histories_of journals) (parts ++ part ∷ [])
@@ -58,13 +57,13 @@ one_part journals parts more host journal part more_is are long here is_of few_i
           sym (journal_at journals host journal here) ∙ ap (λ y. get_or (histories_of journals) y no_history) x_is
           in
           subst (λ (h : History). IsSized other × IsOf h.opening h.entries other) history_is
-          (subst (λ (p : Part). IsSized p × IsOf journal.now.opening journal.now.entries p) last.0 (sized, is_of)))
+          (subst (λ (p : PlainPart). IsSized p × IsOf journal.now.opening journal.now.entries p) last.0 (sized, is_of)))
     ]
 
-pub all_sized : (hs : List History) (parts : List Part) → ArePartsOf hs parts → AreSized parts
+pub all_sized : (hs : List History) (parts : List PlainPart) → ArePartsOf hs parts → AreSized parts
 all_sized hs parts are = λ x part at. (are x part at).0
 
-pub are_all : (journals : List (Bor History)) (parts seen : List Part) → length parts ≡ length journals
+pub are_all : (journals : List (Bor History)) (parts seen : List PlainPart) → length parts ≡ length journals
     → ArePartsOf (histories_of journals) parts → seen ≡ parts → AreOf (journals_of (histories_of journals)) seen
 are_all journals parts seen long are is =
     subst (AreOf (journals_of (histories_of journals))) (sym is)
@@ -86,30 +85,3 @@ module _ (j : Journals) (places : List Place) (events : List Event) (ended : IsE
   pub at_dead_end : (x : ℕ) → x < j.openings.count → taken places x < length (j.entries x)
       → IsDeadEnd j (taken places) × ((events : List Event) × IsOrder (cut (taken places) j) events)
   at_dead_end x lt more = (record { within = ended.within; rest = (x, lt, more); stuck = ended.stuck }, (events, ended.order))
-
--- going through the journals came to an end
-module _ (journals : List (Bor History)) (cuts : List Bool) (places seen : List Place)
-    (passed : HasPassed (journals_of (histories_of journals)) (marked cuts) (taken places)) (same : seen ≡ places) where
-  abbrev AllDone : Type 0
-  AllDone = (x : ℕ) → x < length journals → length (entries_of (histories_of journals) x) ≤ taken seen x
-
-  abbrev IsUnfinished : ℕ → Type 0
-  IsUnfinished x = (x < length journals) × (taken seen x < length (entries_of (histories_of journals) x))
-
-  pub are_contradicted : (o : Option ℕ) (b : Bool) → MatchOption o AllDone IsUnfinished → b ≡ is_some o → b ≡ true
-      → AreContradicted (histories_of journals) cuts
-  are_contradicted None b done is so = cc
-  are_contradicted (Some x) b more is so =
-      passed.contradiction x (there_in journals x more.0)
-      (subst (λ (ps : List Place). taken ps x < length (entries_of (histories_of journals) x)) same more.1)
-
-  pub are_explained : (o : Option ℕ) (b : Bool) → MatchOption o AllDone IsUnfinished → b ≡ is_some o → b ≡ false
-      → AreExplained (histories_of journals) cuts
-  are_explained None b done is so =
-      let e =
-      passed.explained
-      (λ x lt. subst (λ (ps : List Place). length (entries_of (histories_of journals) x) ≤ taken ps x) same
-      (done x (there_of journals x lt)))
-      in
-      record { sequence = e.0; explanation = e.1 }
-  are_explained (Some x) b more is so = cc

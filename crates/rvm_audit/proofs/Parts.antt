@@ -8,7 +8,7 @@ use Rattle.rvm_recorder.specs.Entries.{PlainEntry}
 use Rattle.rvm_recorder.specs.Items.{all_of, entries_at}
 use Rattle.rvm_audit.specs.Orders.{Journals}
 use Rattle.rvm_audit.specs.declared.merge.Merge.{Merge}
-use Rattle.rvm_audit.specs.declared.part.Part.{Part}
+use Rattle.rvm_audit.specs.PlainParts.{PlainPart}
 use Rattle.rvm_audit.specs.declared.part.Place.{Place}
 use Rattle.rvm_audit.specs.Merged.{Merged}
 use Rattle.rvm_audit.specs.Merging.{AreTaken, AreWaiting, IsWaiting, Places, Takes, places_of}
@@ -25,7 +25,7 @@ part_at (a ∷ xs) zero lt = (a, refl)
 part_at (a ∷ xs) (suc x) lt = part_at xs x (omega (arith, lt))
 
 -- a host of the journals waits, if its part does
-waits_in : (j : Journals) (parts : List Part) (places : List Place) (p : Places) (n : ℕ) → AreOf j parts
+waits_in : (j : Journals) (parts : List PlainPart) (places : List Place) (p : Places) (n : ℕ) → AreOf j parts
     → AllWait parts places p n → (x : ℕ) → x < n → x < length parts
     → IsWaiting (j.openings.host x).version j.openings.count x (j.entries x) (taken places x) p
 waits_in j parts places p n are all x lt there =
@@ -36,11 +36,11 @@ waits_in j parts places p n are all x lt there =
     (subst (λ xs. IsWaiting part.0.version (length parts) x xs (taken places x) p) is_of.entries_are
     (all x part.0 lt part.1)))
 
-pub nothing_at : (part : Part) → IsAt part start
+pub nothing_at : (part : PlainPart) → IsAt part start
 nothing_at part = let none : 0 ≤ length (entries_in part) = omega arith in record { within = none; left = refl }
 
 -- nothing was taken
-pub begins : (parts : List Part) (places : List Place) (m : Merge) → m.order ≡ [] → m.made ≡ 0
+pub begins : (parts : List PlainPart) (places : List Place) (m : Merge) → m.order ≡ [] → m.made ≡ 0
     → ((key : List ℕ) → places_of m.places key ≡ None) → length places ≡ length parts
     → ((x : ℕ) → place_at places x ≡ start) → Stands parts places m
 begins parts places m order made none long at = record {
@@ -63,13 +63,13 @@ starts n x places is = ap (λ (ps : List Place). place_at ps x) is ∙ none n x 
 -- A TURN
 
 -- the turn of a host whose part is there, while the hosts below wait
-pub record Turn (parts : List Part) (places : List Place) (old : Merge) (host : ℕ) (part : Part) (place : Place) : Type 0 where
+pub record Turn (parts : List PlainPart) (places : List Place) (old : Merge) (host : ℕ) (part : PlainPart) (place : Place) : Type 0 where
   pub stands : Stands parts places old
   pub lower : AllWait parts places (places_of old.places) host
   pub here : slice_get parts host ≡ Some part
   pub place_is : place ≡ place_at places host
 
-pub turn : (parts : List Part) (places : List Place) (old : Merge) (host : ℕ) (part : Part) (place : Place)
+pub turn : (parts : List PlainPart) (places : List Place) (old : Merge) (host : ℕ) (part : PlainPart) (place : Place)
     → Stands parts places old → AllWait parts places (places_of old.places) host → host < length parts
     → part ≡ get_or parts host part → place ≡ get_or places host place → Turn parts places old host part place
 turn parts places old host part place stands lower lt part_is place_is = record {
@@ -79,7 +79,7 @@ turn parts places old host part place stands lower lt part_is place_is = record 
   place_is = place_is ∙ get_or_default places host place start (let long = stands.long in omega (arith, long, lt));
 }
 
-module _ (parts : List Part) (places : List Place) (old new : Merge) (host : ℕ) (part : Part) (place : Place)
+module _ (parts : List PlainPart) (places : List Place) (old new : Merge) (host : ℕ) (part : PlainPart) (place : Place)
     (turn : Turn parts places old host part place) where
   one : OnePart parts places host part place
   one = record { long = turn.stands.long; each = turn.stands.each; here = turn.here; place_is = turn.place_is }
@@ -103,7 +103,7 @@ module _ (parts : List Part) (places : List Place) (old new : Merge) (host : ℕ
         (let same : host ≡ x = omega (arith, lt, above) in
         let part_is : part ≡ other = same_Some part other (sym turn.here ∙ ap (slice_get parts) same ∙ at) in
         subst (λ y. IsWaiting other.version (length parts) y (entries_in other) (taken places y) (places_of old.places)) same
-        (subst (λ (q : Part). IsWaiting q.version (length parts) host (entries_in q) (taken places host) (places_of old.places)) part_is
+        (subst (λ (q : PlainPart). IsWaiting q.version (length parts) host (entries_in q) (taken places host) (places_of old.places)) part_is
         (subst (λ (k : Place). IsWaiting part.version (length parts) host (entries_in part) k.entries (places_of old.places)) turn.place_is
         (waits_at part.version (length parts) host old new (entries_in part) place.entries left is_at.left are))))
   ]
@@ -189,7 +189,7 @@ module _ (parts : List Part) (places : List Place) (old new : Merge) (host : ℕ
 
 -- THE END
 
-pub at_end : (parts : List Part) (places : List Place) (m : Merge) (n : ℕ) → Stands parts places m
+pub at_end : (parts : List PlainPart) (places : List Place) (m : Merge) (n : ℕ) → Stands parts places m
     → AllWait parts places (places_of m.places) n → length parts ≤ n → (j : Journals) → AreOf j parts
     → IsEnd j (taken places) m.order
 at_end parts places m n stands all le j are =

@@ -266,6 +266,11 @@ module _ (j : Journals) (is_cut : ℕ → Bool) (at : ℕ → ℕ) (made : Place
 
     pub passed : HasPassed j is_cut at
     passed = record {
+      within = m.within;
+      sequence = m.sequence;
+      entries = m.entries;
+      all = m.all;
+      stuck = stuck;
       explained = λ all. (
         m.sequence,
         record {

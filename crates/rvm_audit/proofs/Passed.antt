@@ -1,32 +1,29 @@
 -- Going through parts: where it begins, how a turn leaves it, and where it ends.
-use Rattle.std.proofs.Common.{◌≡◌, ◌∙◌, ℕ, zero, suc, ◌+◌, ◌*◌, ◌<◌, ◌≤◌, not, Bool, true, false, if◌then◌else◌, List, [], ◌∷◌, ◌++◌, drop, get_or, set, length, length-drop, length-set, replicate, Option, None, Some, refl, sym, ap, subst, arith, inl, inr}
+use Rattle.std.proofs.Common.{◌≡◌, ◌∙◌, ℕ, zero, suc, ◌+◌, ◌<◌, ◌≤◌, not, Bool, true, false, if◌then◌else◌, List, [], ◌∷◌, ◌++◌, drop, get_or, set, length, length-drop, length-set, replicate, Option, None, Some, refl, sym, ap, subst, arith, inl, inr}
 use Rattle.std.specs.Prelude.{MatchOption, is_some, slice_get, ◌⊎◌}
 use Rattle.std.proofs.lemmas.Bool.{cases_eq, cases_lt}
 use Rattle.std.proofs.lemmas.List.{get_or-set_other, get_or_default}
 use Rattle.std.proofs.lemmas.Option.{MatchOption-at_none, MatchOption-at_some, same_Some, slice_get_read}
-use Rattle.rvm_recorder.specs.declared.item.ItemRef.{ItemRef}
-use Rattle.rvm_recorder.specs.declared.item.ItemRef.TheVariants.{Entry, Rounds, Steps}
-use Rattle.rvm_recorder.specs.declared.rounds.Rounds.{Rounds as RoundRow}
-use Rattle.rvm_recorder.specs.declared.steps.Steps.{Steps as StepRow}
+use Rattle.rvm_message.specs.declared.event.HostEvent.{HostEvent}
+use Rattle.rvm_message.specs.declared.event.HostEvent.TheVariants.{Came, Do}
 use Rattle.rvm_recorder.specs.Entries.{PlainEntry}
-use Rattle.rvm_recorder.specs.Items.{all_of, entries_at, rounds_of, steps_in_turn}
-use Rattle.rvm_recorder.proofs.InRounds.{rounds_length}
-use Rattle.rvm_recorder.proofs.StepRuns.{steps_length}
+use Rattle.rvm_recorder.specs.Items.{all_of}
+use Rattle.rvm_audit.specs.Stretches.{entries_at}
+use Rattle.rvm_audit.specs.Quiet.{AreQuiet, IsOfCommand}
+use Rattle.rvm_audit.specs.declared.stretch.StretchRef.{StretchRef}
+use Rattle.rvm_audit.specs.declared.stretch.StretchRef.TheVariants.{Framed, Quiet}
 use Rattle.rvm_recorder.proofs.Spans.{drop_at, next_at, next_left}
 use Rattle.rvm_protocol.specs.Pages.{put}
-use Rattle.rvm_core.specs.declared.event.Event.{Event}
 use Rattle.rvm_audit.specs.Orders.{Journals}
 use Rattle.rvm_audit.specs.Merging.{Places, key_of, noted, places_of}
 use Rattle.rvm_audit.specs.Cuts.{marked}
-use Rattle.rvm_audit.specs.Passing.{AllBlocked, EndsJournal, HasPassed, IsBlocked, IsPassage, IsPassing, ItemBlocks, ItemPasses, MayPass}
-use Rattle.rvm_audit.specs.Placed.{rounds_at, steps_at}
+use Rattle.rvm_audit.specs.Passing.{AllBlocked, EndsJournal, HasPassed, IsBlocked, IsPassage, IsPassing, StretchBlocks, StretchPasses, MayPass}
 use Rattle.rvm_audit.specs.declared.known.Known.{Known}
 use Rattle.rvm_audit.specs.declared.known.Passed.{Passed as Row}
-use Rattle.rvm_audit.specs.declared.part.Part.{Part}
+use Rattle.rvm_audit.specs.PlainParts.{PlainPart}
 use Rattle.rvm_audit.specs.declared.part.Place.{Place}
 use Rattle.rvm_audit.specs.Parts.{AreOf, IsAt, entries_in, place_at, taken}
 use Rattle.rvm_audit.proofs.Behind.{OnePart, as_long, at_each, at_place, behind, entries_left, entries_within, items_left, other_place, start, taken_is, there}
-use Rattle.rvm_audit.proofs.Commands.{AreCommands, rounds_are, steps_are}
 use Rattle.rvm_audit.proofs.Parts.{nothing_at, part_at}
 use Rattle.rvm_audit.proofs.Passages.{nothing_passed, pass_one, passed, spend}
 use Rattle.rvm_audit.proofs.Taken.{put_here, put_none, put_twice}
@@ -34,25 +31,29 @@ use Rattle.rvm_audit.proofs.Taken.{put_here, put_none, put_twice}
 -- AN ITEM
 
 module _ (j : Journals) (is_cut : ℕ → Bool) (x : ℕ) (lt : x < j.openings.count) where
+  -- a command may always be passed
+  may_pass : (e : HostEvent) (p : Places) (spent : ℕ → Bool) → IsOfCommand e
+      → MayPass (j.openings.host x).version j.openings.count x p spent e
+  may_pass (Do c) p spent is = tt
+  may_pass (Came from frame) p spent is = absurd is
+
   -- commands are passed at once
-  pass_run : (xs : List PlainEntry) (es : List Event) (at : ℕ → ℕ) (p : Places) (spent : ℕ
-      → Bool) (rest : List PlainEntry)
-      → IsPassage j is_cut at p spent → drop (at x) (j.entries x) ≡ xs ++ rest → AreCommands x xs es
+  pass_run : (xs : List PlainEntry) (at : ℕ → ℕ) (p : Places) (spent : ℕ → Bool) (rest : List PlainEntry)
+      → IsPassage j is_cut at p spent → drop (at x) (j.entries x) ≡ xs ++ rest → AreQuiet xs
       → IsPassage j is_cut (put at x (at x + length xs)) p spent
-  pass_run [] es at p spent rest m is so =
+  pass_run [] at p spent rest m is so =
       subst (λ a. IsPassage j is_cut a p spent) (sym (put_none at x (at x + 0) (omega arith))) m
-  pass_run (n ∷ ns) [] at p spent rest m is so = absurd so
-  pass_run (n ∷ ns) (e ∷ es) at p spent rest m is so =
+  pass_run (n ∷ ns) at p spent rest m is so =
       let c = so.0 in
       let next = put at x (at x + 1) in
       let one =
       pass_one j is_cut at p spent m x lt n (next_at (j.entries x) (at x) n (ns ++ rest) is)
-      (subst (λ v. MayPass (j.openings.host x).version j.openings.count x p spent v) (sym c.event) tt) 0 p
-      (λ key. ap (λ o. noted (key_of x o) 0 p key) (sym c.silent))
+      (may_pass n.event p spent c.0) 0 p
+      (λ key. ap (λ o. noted (key_of x o) 0 p key) (sym c.1))
       in
       let there = put_here at x (at x + 1) in
       let more =
-      pass_run ns es next p spent rest one
+      pass_run ns next p spent rest one
       (ap (λ k. drop k (j.entries x)) there ∙ sym (next_left (j.entries x) (at x) n (ns ++ rest) is)) so.1
       in
       subst (λ a. IsPassage j is_cut a p spent)
@@ -62,86 +63,60 @@ module _ (j : Journals) (is_cut : ℕ → Bool) (x : ℕ) (lt : x < j.openings.c
   abbrev pub IsPassageOf : (ℕ → ℕ) → Known → Type 0
   IsPassageOf at k = IsPassage j is_cut at (places_of k.made) (marked k.spent.items)
 
-  pub item_passed : (at : ℕ → ℕ) (old new : Known) (item : ItemRef) (row : Row) (rest : List PlainEntry)
+  pub stretch_passed : (at : ℕ → ℕ) (old new : Known) (stretch : StretchRef) (row : Row) (rest : List PlainEntry)
       → IsPassageOf at old
-      → drop (at x) (j.entries x) ≡ entries_at item ++ rest
-      → ItemPasses (j.openings.host x).version j.openings.count x item row old new
-      → IsPassageOf (put at x (at x + length (entries_at item))) new
-  item_passed at old new (Entry e) row rest m split t =
+      → drop (at x) (j.entries x) ≡ entries_at stretch ++ rest
+      → StretchPasses (j.openings.host x).version j.openings.count x stretch row old new
+      → IsPassageOf (put at x (at x + length (entries_at stretch))) new
+  stretch_passed at old new (Framed f) row rest m split t =
       let a = put at x (at x + 1) in
       subst (λ s. IsPassage j is_cut a (places_of new.made) (marked s.items)) (sym t.spent)
-      (pass_one j is_cut at (places_of old.made) (marked old.spent.items) m x lt e.now
-      (next_at (j.entries x) (at x) e.now rest split) t.may 0 (places_of new.made) t.made)
-  item_passed at old new (Steps s) row rest m split t =
-      subst (λ k. IsPassageOf (put at x (at x + length (steps_in_turn s.turn s.harts s.count))) k) (sym t.1)
-      (pass_run (steps_in_turn s.turn s.harts s.count) (steps_at x s.turn s.harts s.count) at (places_of old.made)
-      (marked old.spent.items) rest m split (steps_are x s.turn s.harts s.count))
-  item_passed at old new (Rounds r) row rest m split t =
-      subst (λ k. IsPassageOf (put at x (at x + length (rounds_of r))) k) (sym t.1)
-      (pass_run (rounds_of r) (rounds_at x r.turn r.harts r.steps r.drain r.count) at (places_of old.made)
-      (marked old.spent.items) rest m split (rounds_are x r.turn r.harts r.steps r.drain r.count))
+      (pass_one j is_cut at (places_of old.made) (marked old.spent.items) m x lt f.now
+      (next_at (j.entries x) (at x) f.now rest split) t.may 0 (places_of new.made) t.made)
+  stretch_passed at old new (Quiet q) row rest m split t =
+      subst (λ k. IsPassageOf (put at x (at x + length q.now)) k) (sym t.2)
+      (pass_run q.now at (places_of old.made) (marked old.spent.items) rest m split t.1)
 
--- steps and rounds are passed at once
-pub steps_passed : (version count x : ℕ) (item : ItemRef) (s : StepRow) (row : Row) (old : Known) → item ≡ Steps s
-    → row.entries ≡ s.count → ItemPasses version count x item row old old
-steps_passed version count x item s row old is n_is =
-    subst (λ i. ItemPasses version count x i row old old) (sym is) (
-      n_is
-          ∙ sym (steps_length s.turn s.harts s.count),
-      refl,
-    )
-
-pub rounds_passed : (version count x : ℕ) (item : ItemRef) (r : RoundRow) (row : Row) (old : Known) → item ≡ Rounds r
-    → row.entries ≡ r.count * (r.steps + 1) → ItemPasses version count x item row old old
-rounds_passed version count x item r row old is n_is =
-    subst (λ i. ItemPasses version count x i row old old) (sym is)
-    (n_is ∙ sym (rounds_length r.turn r.harts r.steps r.drain r.count), refl)
-
--- what an item that was passed leaves
+-- what a stretch that was passed leaves
 no_frame : (o : Option (List ℕ)) (b : Bool) → b ≡ not (is_some o) → b ≡ true → o ≡ None
 no_frame None b is so = refl
 no_frame (Some bytes) b is so = absurd cc
 
 module _ (version count x : ℕ) (old new : Known) where
-  pub as_many : (item : ItemRef) (row : Row) → ItemPasses version count x item row old new
-      → row.entries ≡ length (entries_at item)
-  as_many (Entry e) row t = t.entries
-  as_many (Steps s) row t = t.0
-  as_many (Rounds r) row t = t.0
+  pub as_many : (stretch : StretchRef) (row : Row) → StretchPasses version count x stretch row old new
+      → row.entries ≡ length (entries_at stretch)
+  as_many (Framed f) row t = t.entries
+  as_many (Quiet q) row t = t.0
 
-  pub same_spent : (item : ItemRef) (row : Row) → ItemPasses version count x item row old new → new.spent ≡ old.spent
-  same_spent (Entry e) row t = t.spent
-  same_spent (Steps s) row t = ap (λ (k : Known). k.spent) t.1
-  same_spent (Rounds r) row t = ap (λ (k : Known). k.spent) t.1
+  pub same_spent : (stretch : StretchRef) (row : Row) → StretchPasses version count x stretch row old new → new.spent ≡ old.spent
+  same_spent (Framed f) row t = t.spent
+  same_spent (Quiet q) row t = ap (λ (k : Known). k.spent) t.2
 
-  pub same_made : (item : ItemRef) (row : Row) → ItemPasses version count x item row old new → row.is_silent ≡ true
+  pub same_made : (stretch : StretchRef) (row : Row) → StretchPasses version count x stretch row old new → row.is_silent ≡ true
       → (key : List ℕ) → places_of new.made key ≡ places_of old.made key
-  same_made (Entry e) row t is key =
+  same_made (Framed f) row t is key =
       t.made key ∙ ap (λ o. noted (key_of x o) 0 (places_of old.made) key)
-      (no_frame e.now.frame row.is_silent t.silent is)
-  same_made (Steps s) row t is key = ap (λ (k : Known). places_of k.made key) t.1
-  same_made (Rounds r) row t is key = ap (λ (k : Known). places_of k.made key) t.1
+      (no_frame f.now.frame row.is_silent t.silent is)
+  same_made (Quiet q) row t is key = ap (λ (k : Known). places_of k.made key) t.2
 
-  pub blocked_same : (item : ItemRef) → ItemBlocks version count x item old new → new ≡ old
-  blocked_same (Entry e) b = b.1
-  blocked_same (Steps s) b = absurd b
-  blocked_same (Rounds r) b = absurd b
+  pub blocked_same : (stretch : StretchRef) → StretchBlocks version count x stretch old new → new ≡ old
+  blocked_same (Framed f) b = b.1
+  blocked_same (Quiet q) b = absurd b
 
-  blocked_at : (is_cut : Bool) (entries : List PlainEntry) (i : ℕ) (item : ItemRef) (rest : List PlainEntry)
-      → drop i entries ≡ entries_at item ++ rest → ItemBlocks version count x item old new
+  blocked_at : (is_cut : Bool) (entries : List PlainEntry) (i : ℕ) (stretch : StretchRef) (rest : List PlainEntry)
+      → drop i entries ≡ entries_at stretch ++ rest → StretchBlocks version count x stretch old new
       → IsBlocked version count x (places_of old.made) (marked old.spent.items) is_cut entries i
-  blocked_at is_cut entries i (Entry e) rest split b = inr (e.now, next_at entries i e.now rest split, b.0)
-  blocked_at is_cut entries i (Steps s) rest split b = absurd b
-  blocked_at is_cut entries i (Rounds r) rest split b = absurd b
+  blocked_at is_cut entries i (Framed f) rest split b = inr (f.now, next_at entries i f.now rest split, b.0)
+  blocked_at is_cut entries i (Quiet q) rest split b = absurd b
 
 -- WHERE IT BEGINS
 
-no_marks : (n x : ℕ) → ◌≡◌ {A = Bool} (marked (replicate {A = Bool} n false) x) false
+pub no_marks : (n x : ℕ) → ◌≡◌ {A = Bool} (marked (replicate {A = Bool} n false) x) false
 no_marks zero x = refl
 no_marks (suc n) zero = refl
 no_marks (suc n) (suc x) = no_marks n x
 
-pub starts_passing : (parts : List Part) (cuts : List Bool) (places : List Place) (known : Known) (n : ℕ)
+pub starts_passing : (parts : List PlainPart) (cuts : List Bool) (places : List Place) (known : Known) (n : ℕ)
     → ((key : List ℕ) → places_of known.made key ≡ None) → ◌≡◌ {A = List Bool} known.spent.items (replicate n false)
     → length known.spent.items ≡ length parts → length places ≡ length parts → ((x : ℕ) → place_at places x ≡ start)
     → IsPassing parts cuts places known
@@ -159,14 +134,14 @@ starts_passing parts cuts places known n none spent spent_long long at = record 
 -- A TURN
 
 -- the turn of a host whose part is there, while the hosts below are blocked
-pub record PassTurn (parts : List Part) (cuts : List Bool) (places : List Place) (old : Known) (host : ℕ) (part : Part)
+pub record PassTurn (parts : List PlainPart) (cuts : List Bool) (places : List Place) (old : Known) (host : ℕ) (part : PlainPart)
     (place : Place) : Type 0 where
   pub passing : IsPassing parts cuts places old
   pub lower : AllBlocked parts cuts places old host
   pub here : slice_get parts host ≡ Some part
   pub place_is : place ≡ place_at places host
 
-pub pass_turn_of : (parts : List Part) (cuts : List Bool) (places : List Place) (old : Known) (host : ℕ) (part : Part)
+pub pass_turn_of : (parts : List PlainPart) (cuts : List Bool) (places : List Place) (old : Known) (host : ℕ) (part : PlainPart)
     (place : Place)
     → IsPassing parts cuts places old → AllBlocked parts cuts places old host → host < length parts
     → part ≡ get_or parts host part → place ≡ get_or places host place → PassTurn parts cuts places old host part place
@@ -178,11 +153,11 @@ pass_turn_of parts cuts places old host part place passing lower lt part_is plac
 }
 
 -- the next item of a part
-pub record IsNextItem (part : Part) (place : Place) (item : ItemRef) : Type 0 where
+pub record IsNextItem (part : PlainPart) (place : Place) (item : StretchRef) : Type 0 where
   pub rest : List (List PlainEntry)
   pub split : drop place.items part.items.now ≡ entries_at item ∷ rest
 
-pub next_item_is : (part : Part) (place : Place) (entries : List PlainEntry) (item : ItemRef)
+pub next_item_is : (part : PlainPart) (place : Place) (entries : List PlainEntry) (item : StretchRef)
     → slice_get part.items.now place.items ≡ Some entries → entries_at item ≡ entries → IsNextItem part place item
 next_item_is part place entries item here look = record {
   rest = drop (place.items + 1) part.items.now;
@@ -191,7 +166,7 @@ next_item_is part place entries item here look = record {
       ∙ ap (λ (xs : List PlainEntry). xs ∷ drop (place.items + 1) part.items.now) (sym look);
 }
 
-module _ (parts : List Part) (cuts : List Bool) (places : List Place) (old new : Known) (host : ℕ) (part : Part)
+module _ (parts : List PlainPart) (cuts : List Bool) (places : List Place) (old new : Known) (host : ℕ) (part : PlainPart)
     (place : Place)
     (turn : PassTurn parts cuts places old host part place) where
   one : OnePart parts places host part place
@@ -200,7 +175,7 @@ module _ (parts : List Part) (cuts : List Bool) (places : List Place) (old new :
   is_at : IsAt part place
   is_at = at_place parts places host part place one
 
-  abbrev Blocked : Known → Part → ℕ → ℕ → Type 0
+  abbrev Blocked : Known → PlainPart → ℕ → ℕ → Type 0
   Blocked k q y i =
       IsBlocked q.version (length parts) y (places_of k.made) (marked k.spent.items) (marked cuts y) (entries_in q) i
 
@@ -213,7 +188,7 @@ module _ (parts : List Part) (cuts : List Bool) (places : List Place) (old new :
         (let same : host ≡ x = omega (arith, lt, above) in
         let part_is : part ≡ other = same_Some part other (sym turn.here ∙ ap (slice_get parts) same ∙ at) in
         subst (λ y. Blocked k other y (taken places y)) same
-        (subst (λ (q : Part). Blocked k q host (taken places host)) part_is
+        (subst (λ (q : PlainPart). Blocked k q host (taken places host)) part_is
         (subst (λ (p : Place). Blocked k part host p.entries) turn.place_is blocks)))
   ]
 
@@ -272,12 +247,12 @@ module _ (parts : List Part) (cuts : List Bool) (places : List Place) (old new :
 
   -- IT HAS A NEXT ITEM
 
-  module _ (item : ItemRef) (is_next : IsNextItem part place item) where
+  module _ (item : StretchRef) (is_next : IsNextItem part place item) where
     left : drop place.entries (entries_in part) ≡ entries_at item ++ all_of is_next.rest
     left = entries_left parts places host part place one (length (entries_at item))
         (entries_at item) is_next.rest is_next.split refl
 
-    module _ (blocks : ItemBlocks part.version (length parts) host item old new) where
+    module _ (blocks : StretchBlocks part.version (length parts) host item old new) where
       same : new ≡ old
       same = blocked_same part.version (length parts) host old new item blocks
 
@@ -291,7 +266,7 @@ module _ (parts : List Part) (cuts : List Bool) (places : List Place) (old new :
           (blocked_at part.version (length parts) host old new (marked cuts host) (entries_in part) place.entries item
           (all_of is_next.rest) left blocks))
 
-    module _ (row : Row) (t : ItemPasses part.version (length parts) host item row old new) where
+    module _ (row : Row) (t : StretchPasses part.version (length parts) host item row old new) where
       size : row.entries ≡ length (entries_at item)
       size = as_many part.version (length parts) host old new item row t
 
@@ -316,13 +291,13 @@ module _ (parts : List Part) (cuts : List Bool) (places : List Place) (old new :
           let own_left : drop (taken places host) (j.entries host) ≡ entries_at item ++ all_of is_next.rest =
           (λ i. drop (at i) (sym is_of.entries_are i)) ∙ left
           in
-          let passes : ItemPasses (j.openings.host host).version j.openings.count host item row old new =
-          subst (λ v. ItemPasses v j.openings.count host item row old new) is_of.version_is
-          (subst (λ c. ItemPasses part.version c host item row old new) (sym count_is) t)
+          let passes : StretchPasses (j.openings.host host).version j.openings.count host item row old new =
+          subst (λ v. StretchPasses v j.openings.count host item row old new) is_of.version_is
+          (subst (λ c. StretchPasses part.version c host item row old new) (sym count_is) t)
           in
           subst (λ (v : ℕ → ℕ). IsPassage j (marked cuts) v (places_of new.made) (marked new.spent.items))
           (taken_is parts places host part place one row.entries (entries_at item) is_next.rest is_next.split size)
-          (item_passed j (marked cuts) host lt (taken places) old new item row (all_of is_next.rest)
+          (stretch_passed j (marked cuts) host lt (taken places) old new item row (all_of is_next.rest)
           (turn.passing.passage j are) own_left passes)
 
       goes_on_passing : IsPassing parts cuts after new
@@ -356,13 +331,13 @@ module _ (parts : List Part) (cuts : List Bool) (places : List Place) (old new :
       lower_blocked false k silent_is k_is = λ x other lt at. absurd (omega (arith, lt, k_is))
 
   -- what the turn leaves
-  module _ (item : ItemRef) (is_next : IsNextItem part place item) (o : Option Row)
-      (came : MatchOption o (ItemBlocks part.version (length parts) host item old new)
-      (λ row. ItemPasses part.version (length parts) host item row old new)) where
-    blocks : o ≡ None → ItemBlocks part.version (length parts) host item old new
+  module _ (item : StretchRef) (is_next : IsNextItem part place item) (o : Option Row)
+      (came : MatchOption o (StretchBlocks part.version (length parts) host item old new)
+      (λ row. StretchPasses part.version (length parts) host item row old new)) where
+    blocks : o ≡ None → StretchBlocks part.version (length parts) host item old new
     blocks is =
-        MatchOption-at_none (ItemBlocks part.version (length parts) host item old new)
-        (λ row. ItemPasses part.version (length parts) host item row old new) is came
+        MatchOption-at_none (StretchBlocks part.version (length parts) host item old new)
+        (λ row. StretchPasses part.version (length parts) host item row old new) is came
 
     pub none_passing : o ≡ None → IsPassing parts cuts places new
     none_passing is = still_passing item is_next (blocks is)
@@ -371,10 +346,10 @@ module _ (parts : List Part) (cuts : List Bool) (places : List Place) (old new :
     none_blocked is = one_more_blocked item is_next (blocks is)
 
     module _ (row : Row) (is : o ≡ Some row) where
-      pub passes : ItemPasses part.version (length parts) host item row old new
+      pub passes : StretchPasses part.version (length parts) host item row old new
       passes =
-          MatchOption-at_some (ItemBlocks part.version (length parts) host item old new)
-          (λ r. ItemPasses part.version (length parts) host item r old new) row is came
+          MatchOption-at_some (StretchBlocks part.version (length parts) host item old new)
+          (λ r. StretchPasses part.version (length parts) host item r old new) row is came
 
       pub some_items_left : place.items < length part.items.now
       some_items_left = fits item is_next row passes
@@ -392,7 +367,7 @@ module _ (parts : List Part) (cuts : List Bool) (places : List Place) (old new :
 -- THE END
 
 -- a host of the journals is blocked, if its part is
-pub has_passed : (parts : List Part) (cuts : List Bool) (places : List Place) (known : Known) (n : ℕ)
+pub has_passed : (parts : List PlainPart) (cuts : List Bool) (places : List Place) (known : Known) (n : ℕ)
     → IsPassing parts cuts places known → AllBlocked parts cuts places known n → length parts ≤ n
     → (j : Journals) → AreOf j parts → HasPassed j (marked cuts) (taken places)
 has_passed parts cuts places known n passing all le j are =

@@ -13,7 +13,7 @@ use Rattle.rvm_core.specs.declared.event.Event.{Event}
 use Rattle.rvm_audit.specs.Orders as every
 use Rattle.rvm_audit.specs.Worlds as every_world
 use Rattle.rvm_audit.proofs.Law.{is_world_run}
-use Rattle.rvm_audit.specs.declared.part.Part.{Part}
+use Rattle.rvm_audit.specs.PlainParts.{PlainPart}
 use Rattle.rvm_audit.specs.declared.part.Place.{Place}
 use Rattle.rvm_audit.specs.ListOrders.{IsDeadEnd, IsMerge, IsOrder, both}
 use Rattle.rvm_audit.specs.Parts.{AreOf, IsOf, taken}
@@ -28,13 +28,13 @@ of_two P first second zero lt = first
 of_two P first second (suc zero) lt = second
 of_two P first second (suc (suc x)) lt = absurd (omega (arith, lt))
 
-parts_of_two : (P : ℕ → Part → Type 0) (a b : Part) → P 0 a → P 1 b → (x : ℕ) (part : Part)
+parts_of_two : (P : ℕ → PlainPart → Type 0) (a b : PlainPart) → P 0 a → P 1 b → (x : ℕ) (part : PlainPart)
     → slice_get (a ∷ b ∷ []) x ≡ Some part → P x part
 parts_of_two P a b first second zero part is = subst (P 0) (same_Some a part is) first
 parts_of_two P a b first second (suc zero) part is = subst (P 1) (same_Some b part is) second
 parts_of_two P a b first second (suc (suc x)) part is = cc
 
-pub are_of : (a b : History) (p q : Part) → IsOf a.opening a.entries p → IsOf b.opening b.entries q
+pub are_of : (a b : History) (p q : PlainPart) → IsOf a.opening a.entries p → IsOf b.opening b.entries q
     → AreOf (both a b) (p ∷ q ∷ [])
 are_of a b p q first second = record {
   count_is = refl;

@@ -7,7 +7,7 @@ use Rattle.rvm_core.specs.declared.event.Event.{Event}
 use Rattle.rvm_audit.specs.Orders.{IsDeadEnd, IsOrder, Journals, cut}
 use Rattle.rvm_audit.specs.declared.list.Audit.{Audit}
 use Rattle.rvm_audit.specs.declared.list.Audit.TheVariants.{NoOrder, Order}
-use Rattle.rvm_audit.specs.declared.part.Part.{Part}
+use Rattle.rvm_audit.specs.PlainParts.{PlainPart}
 use Rattle.rvm_audit.specs.ListOrders.{no_history}
 use Rattle.rvm_audit.specs.Parts.{IsOf, IsSized, taken}
 use Rattle.rvm_audit.specs.Rule.{IsMerge}
@@ -27,7 +27,7 @@ IsAudit j (NoOrder places) =
     IsDeadEnd j (taken places.items) × ((events : List Event) × IsOrder (cut (taken places.items) j) events)
 
 -- each of these parts is what a merge reads of the journal with its number
-abbrev pub ArePartsOf : List History → List Part → Type 0
+abbrev pub ArePartsOf : List History → List PlainPart → Type 0
 ArePartsOf hs parts =
-    (x : ℕ) (part : Part) → slice_get parts x ≡ Some part
+    (x : ℕ) (part : PlainPart) → slice_get parts x ≡ Some part
     → IsSized part × IsOf (get_or hs x no_history).opening (entries_of hs x) part

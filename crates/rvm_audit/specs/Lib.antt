@@ -5,9 +5,14 @@ pub mod Rule
 pub mod ListOrders
 pub mod PairRuns
 pub mod Placed
+pub mod Quiet
+pub mod Stretches
 pub mod Merging
 pub mod Merged
+pub mod PlainParts
 pub mod Parts
+pub mod Outlines
+pub mod OutlineAudits
 pub mod Audits
 pub mod Cuts
 pub mod Passing

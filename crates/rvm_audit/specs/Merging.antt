@@ -42,11 +42,6 @@ abbrev pub counted : Option (List ℕ) → ℕ → ℕ
 counted None n = n
 counted (Some bytes) n = n + 1
 
--- the event is a command
-abbrev pub IsOfCommand : HostEvent → Type 0
-IsOfCommand (Do c) = Unit {0}
-IsOfCommand (Came from frame) = ⊥
-
 -- the journal that is read is of host x, one of `count` hosts whose streams have this version
 module _ (version count x : ℕ) where
   -- this is the key of a frame that comes from another host

@@ -6,34 +6,34 @@ use Rattle.rvm_recorder.specs.Items.{all_of}
 use Rattle.rvm_recorder.specs.Replay.{IsReplay}
 use Rattle.rvm_audit.specs.Orders.{Journals}
 use Rattle.rvm_audit.specs.declared.merge.Merge.{Merge}
-use Rattle.rvm_audit.specs.declared.part.Part.{Part}
+use Rattle.rvm_audit.specs.PlainParts.{PlainPart}
 use Rattle.rvm_audit.specs.declared.part.Place.{Place}
 use Rattle.rvm_audit.specs.Merged.{Merged}
 use Rattle.rvm_audit.specs.Merging.{IsWaiting, Places, places_of}
 
 -- the entries of a part
-abbrev pub entries_in : Part → List PlainEntry
+abbrev pub entries_in : PlainPart → List PlainEntry
 entries_in part = all_of part.items.now
 
 -- a part is what a merge reads of the journal with this opening host and these entries
-pub record IsOf (opening : PlainHost) (entries : List PlainEntry) (part : Part) : Type 0 where
+pub record IsOf (opening : PlainHost) (entries : List PlainEntry) (part : PlainPart) : Type 0 where
   pub version_is : part.version ≡ opening.version
   pub entries_are : entries_in part ≡ entries
   pub replay : IsReplay opening entries
 
 -- the parts are what a merge reads of these journals, by number
-pub record AreOf (j : Journals) (parts : List Part) : Type 0 where
+pub record AreOf (j : Journals) (parts : List PlainPart) : Type 0 where
   pub count_is : j.openings.count ≡ length parts
-  pub each : (x : ℕ) (part : Part) → slice_get parts x ≡ Some part → IsOf (j.openings.host x) (j.entries x) part
+  pub each : (x : ℕ) (part : PlainPart) → slice_get parts x ≡ Some part → IsOf (j.openings.host x) (j.entries x) part
 
 -- a part has no more items and entries than a journal can have
-pub record IsSized (part : Part) : Type 0 where
+pub record IsSized (part : PlainPart) : Type 0 where
   pub items : length part.items.now < 2 ^ 63
-  pub entries : length (entries_in part) < 2 ^ 32
+  pub entries : length (entries_in part) < 2 ^ 64
 
 -- each part has no more items and entries than a journal can have
-abbrev pub AreSized : List Part → Type 0
-AreSized parts = (x : ℕ) (part : Part) → slice_get parts x ≡ Some part → IsSized part
+abbrev pub AreSized : List PlainPart → Type 0
+AreSized parts = (x : ℕ) (part : PlainPart) → slice_get parts x ≡ Some part → IsSized part
 
 -- how much of part x was taken
 abbrev pub place_at : List Place → (x : ℕ) → Place
@@ -44,18 +44,18 @@ abbrev pub taken : List Place → (x : ℕ) → ℕ
 taken places x = (place_at places x).entries
 
 -- a part was taken up to a place: this many items, which have this many entries together
-pub record IsAt (part : Part) (place : Place) : Type 0 where
+pub record IsAt (part : PlainPart) (place : Place) : Type 0 where
   pub within : place.entries ≤ length (entries_in part)
   pub left : all_of (drop place.items part.items.now) ≡ drop place.entries (entries_in part)
 
 -- the parts are merged up to these places
-pub record Stands (parts : List Part) (places : List Place) (m : Merge) : Type 0 where
+pub record Stands (parts : List PlainPart) (places : List Place) (m : Merge) : Type 0 where
   pub long : length places ≡ length parts
-  pub each : (x : ℕ) (part : Part) → slice_get parts x ≡ Some part → IsAt part (place_at places x)
+  pub each : (x : ℕ) (part : PlainPart) → slice_get parts x ≡ Some part → IsAt part (place_at places x)
   pub merged : (j : Journals) → AreOf j parts → Merged j (taken places) m.order (places_of m.places) m.made
 
 -- the hosts below n wait: each has no next entry, or one that cannot stand
-abbrev pub AllWait : List Part → List Place → Places → (n : ℕ) → Type 0
+abbrev pub AllWait : List PlainPart → List Place → Places → (n : ℕ) → Type 0
 AllWait parts places made n =
-    (x : ℕ) (part : Part) → x < n → slice_get parts x ≡ Some part
+    (x : ℕ) (part : PlainPart) → x < n → slice_get parts x ≡ Some part
     → IsWaiting part.version (length parts) x (entries_in part) (taken places x) made

@@ -1,20 +1,20 @@
 -- Going through journals of which some were cut: what may be passed, and how far it came.
 use Rattle.std.specs.Prelude.{◌≡◌, ◌⊎◌, ℕ, ◌<◌, ◌≤◌, ◌+◌, Bool, true, false, not, List, ◌∷◌, Some, is_some, length, set, slice_get, take}
 use Rattle.rvm_frame.specs.declared.frame.Frame.{Frame}
-use Rattle.rvm_recorder.specs.declared.item.ItemRef.{ItemRef}
-use Rattle.rvm_recorder.specs.declared.item.ItemRef.TheVariants as look
 use Rattle.rvm_recorder.specs.Entries.{PlainEntry}
-use Rattle.rvm_recorder.specs.Items.{entries_at as entries_of_item}
 use Rattle.rvm_message.specs.declared.event.HostEvent.{HostEvent}
 use Rattle.rvm_message.specs.declared.event.HostEvent.TheVariants.{Do, Came}
 use Rattle.rvm_protocol.specs.Host.{is_there}
 use Rattle.rvm_audit.specs.Hosts.{HasBytes, HostEntry, Made, entries_at}
-use Rattle.rvm_audit.specs.Orders.{Journals}
+use Rattle.rvm_audit.specs.Orders.{IsStuck, Journals}
 use Rattle.rvm_audit.specs.Merging.{Places, key_of, noted, places_of}
+use Rattle.rvm_audit.specs.Quiet.{AreQuiet}
 use Rattle.rvm_audit.specs.Cuts.{AllExplained, IsContradiction, IsExplanation, all_made, marked}
 use Rattle.rvm_audit.specs.declared.known.Known.{Known}
 use Rattle.rvm_audit.specs.declared.known.Passed.{Passed}
-use Rattle.rvm_audit.specs.declared.part.Part.{Part}
+use Rattle.rvm_audit.specs.declared.stretch.StretchRef.{StretchRef}
+use Rattle.rvm_audit.specs.declared.stretch.StretchRef.TheVariants as look
+use Rattle.rvm_audit.specs.PlainParts.{PlainPart}
 use Rattle.rvm_audit.specs.declared.part.Place.{Place}
 use Rattle.rvm_audit.specs.Parts.{AreOf, IsAt, entries_in, place_at, taken}
 
@@ -68,9 +68,14 @@ pub record IsPassage (j : Journals) (is_cut : ℕ → Bool) (at : ℕ → ℕ) (
   pub known : AreKnown (all_made sequence) made
   pub ended : (x : ℕ) → x < j.openings.count → spent x ≡ true → (is_cut x ≡ true) × (at x ≡ length (j.entries x))
 
--- the end of going through journals: they have an explanation if each was taken to its end, and contradict one another
--- if one was not
+-- the end of going through journals: what was passed is explained, and no host can go on; they have an explanation if each
+-- was taken to its end, and contradict one another if one was not
 pub record HasPassed (j : Journals) (is_cut : ℕ → Bool) (places : ℕ → ℕ) : Type 0 where
+  pub within : (x : ℕ) → x < j.openings.count → places x ≤ length (j.entries x)
+  pub sequence : List HostEntry
+  pub entries : (x : ℕ) → x < j.openings.count → entries_at x sequence ≡ take (places x) (j.entries x)
+  pub all : AllExplained j is_cut sequence
+  pub stuck : (x : ℕ) → x < j.openings.count → IsStuck j places x
   pub explained : ((x : ℕ) → x < j.openings.count → length (j.entries x) ≤ places x)
       → (sequence : List HostEntry) × IsExplanation j is_cut sequence
   pub contradiction : (x : ℕ) → x < j.openings.count → places x < length (j.entries x) → IsContradiction j is_cut
@@ -86,18 +91,16 @@ module _ (version count x : ℕ) where
     pub entries : p.entries ≡ 1
     pub silent : p.is_silent ≡ not (is_some n.frame)
 
-  -- an item was passed: an entry that may be, or steps or rounds, which may always be
-  abbrev pub ItemPasses : ItemRef → Passed → (old new : Known) → Type 0
-  ItemPasses (look.Entry e) p old new = IsEntryPassed e.now p old new
-  ItemPasses (look.Steps s) p old new = (p.entries ≡ length (entries_of_item (look.Steps s))) × (new ≡ old)
-  ItemPasses (look.Rounds r) p old new = (p.entries ≡ length (entries_of_item (look.Rounds r))) × (new ≡ old)
+  -- a stretch was passed: an entry that may be, or commands, which may always be
+  abbrev pub StretchPasses : StretchRef → Passed → (old new : Known) → Type 0
+  StretchPasses (look.Framed f) p old new = IsEntryPassed f.now p old new
+  StretchPasses (look.Quiet q) p old new = (p.entries ≡ length q.now) × AreQuiet q.now × (new ≡ old)
 
-  -- an item is an entry that may not be passed
-  abbrev pub ItemBlocks : ItemRef → (old new : Known) → Type 0
-  ItemBlocks (look.Entry e) old new =
-      MayNotPass version count x (places_of old.made) (marked old.spent.items) e.now.event × (new ≡ old)
-  ItemBlocks (look.Steps s) old new = ⊥
-  ItemBlocks (look.Rounds r) old new = ⊥
+  -- a stretch is of an entry that may not be passed
+  abbrev pub StretchBlocks : StretchRef → (old new : Known) → Type 0
+  StretchBlocks (look.Framed f) old new =
+      MayNotPass version count x (places_of old.made) (marked old.spent.items) f.now.event × (new ≡ old)
+  StretchBlocks (look.Quiet q) old new = ⊥
 
 -- the journal of host x was taken to its end: if it was cut, the host is spent; the next host to ask is the one after
 -- it, or the first if the host was not spent before
@@ -107,16 +110,16 @@ EndsJournal is_cut x old new next =
     ⊎ ((is_cut ≡ true) × (new.made ≡ old.made) × (new.spent.items ≡ set old.spent.items x true) × (next ≡ 0))
 
 -- the parts were gone through up to these places
-pub record IsPassing (parts : List Part) (cuts : List Bool) (places : List Place) (known : Known) : Type 0 where
+pub record IsPassing (parts : List PlainPart) (cuts : List Bool) (places : List Place) (known : Known) : Type 0 where
   pub long : length places ≡ length parts
   pub spent : length known.spent.items ≡ length parts
-  pub each : (x : ℕ) (part : Part) → slice_get parts x ≡ Some part → IsAt part (place_at places x)
+  pub each : (x : ℕ) (part : PlainPart) → slice_get parts x ≡ Some part → IsAt part (place_at places x)
   pub passage : (j : Journals) → AreOf j parts
       → IsPassage j (marked cuts) (taken places) (places_of known.made) (marked known.spent.items)
 
 -- the hosts below n are blocked
-abbrev pub AllBlocked : List Part → (cuts : List Bool) → List Place → Known → (n : ℕ) → Type 0
+abbrev pub AllBlocked : List PlainPart → (cuts : List Bool) → List Place → Known → (n : ℕ) → Type 0
 AllBlocked parts cuts places known n =
-    (x : ℕ) (part : Part) → x < n → slice_get parts x ≡ Some part
+    (x : ℕ) (part : PlainPart) → x < n → slice_get parts x ≡ Some part
     → IsBlocked part.version (length parts) x (places_of known.made) (marked known.spent.items) (marked cuts x)
     (entries_in part) (taken places x)

@@ -3,9 +3,9 @@
 ghost use Rattle.std.specs.Prelude.{◌≡◌, ◌≤◌, IfOk, false, length, true};
 ghost use Rattle.rvm_audit.specs.Audits.{histories_of};
 ghost use Rattle.rvm_audit.specs.Cuts.{AreContradicted, AreExplained};
+ghost use Rattle.rvm_audit.specs.Outlines.{AreOutlinesOf, outlines_in};
 
-use crate::list::{parts_of, unfinished};
-use crate::passing::pass_all;
+use crate::outline::{Outline, are_outlines_contradictory};
 use rvm_mem::PagedMemory;
 use rvm_recorder::Journal;
 use std::alloc::{AllocError, Global};
@@ -17,7 +17,7 @@ use std::alloc::{AllocError, Global};
 /// It takes each journal as far as it can go. An entry that says that a frame came is passed once the host that it came
 /// from has made the frame, or has a journal that was cut and is at its end. The journals contradict one another if one
 /// of them cannot be taken to its end so. It needs time for each item, however many entries that has, and keeps the
-/// frames that were made, but no events.
+/// frames of the journals once more, but no events.
 pub fn are_contradictory<M: PagedMemory + Drop>(
     alloc: Global,
     journals: &[&Journal<M>],
@@ -28,7 +28,32 @@ pub fn are_contradictory<M: PagedMemory + Drop>(
     ensures found { IfOk result (λ found. found ≡ true → AreContradicted (histories_of journals.now) cuts.now) }
     ensures none { IfOk result (λ found. found ≡ false → AreExplained (histories_of journals.now) cuts.now) }
 {
-    let parts = parts_of(alloc, journals)?;
-    let places = pass_all(alloc, parts.as_slice(), cuts)?;
-    Ok(unfinished(journals, places.as_slice()).is_some())
+    let outlines = outlines_of(alloc, journals)?;
+    let references = references_to(alloc, outlines.as_slice())?;
+    are_outlines_contradictory(alloc, references.as_slice(), cuts)
+}
+
+/// References to these outlines.
+fn references_to(alloc: Global, outlines: &[Outline]) -> Result<Vec<&Outline>, AllocError>
+    ensures { IfOk result (λ all. outlines_in all.items ≡ outlines.now) }
+{
+    let mut all = Vec::new(alloc);
+    for host in 0..outlines.len() {
+        all.push(&outlines[host])?;
+    }
+    Ok(all)
+}
+
+/// What is kept of each of these journals if only their frames are.
+fn outlines_of<M: PagedMemory + Drop>(
+    alloc: Global,
+    journals: &[&Journal<M>],
+) -> Result<Vec<Outline>, AllocError>
+    ensures { IfOk result (λ outlines. AreOutlinesOf (histories_of journals.now) outlines.items) }
+{
+    let mut outlines = Vec::new(alloc);
+    for host in 0..journals.len() {
+        outlines.push(Outline::of_journal(alloc, journals[host])?)?;
+    }
+    Ok(outlines)
 }

@@ -1,7 +1,8 @@
 //! The frames that the entries of journals made, and those that came with them.
 
 ghost use Rattle.std.specs.Prelude.{◌≡◌, ◌∷◌, IfOk, OnOk, MatchOption, List, ℕ, is_some};
-ghost use Rattle.rvm_audit.specs.Merging.{IsKey, IsNoFrame, IsOfCommand, key_of, noted, places_of};
+ghost use Rattle.rvm_audit.specs.Merging.{IsKey, IsNoFrame, key_of, noted, places_of};
+ghost use Rattle.rvm_audit.specs.Quiet.{IsOfCommand};
 ghost use Rattle.rvm_message.specs.declared.event.HostEvent.TheVariants.{Came};
 
 use crate::places::{Places, note};

@@ -1,15 +1,14 @@
 //! What is known of the frames that hosts made, when journals that were cut are gone through.
 
-ghost use Rattle.std.specs.Prelude.{◌≡◌, ◌<◌, ◌||◌, IfOk, MatchOption, List, None, ℕ, false, is_some, length, replicate, set, true};
+ghost use Rattle.std.specs.Prelude.{◌≡◌, ◌<◌, ◌||◌, IfOk, OnOk, MatchOption, List, None, ℕ, false, is_some, length, replicate, set, true};
 ghost use Rattle.rvm_audit.specs.Cuts.{marked};
-ghost use Rattle.rvm_audit.specs.Merging.{places_of};
-ghost use Rattle.rvm_audit.specs.Passing.{IsEntryPassed, ItemBlocks, ItemPasses, MayCome, MayNotCome, MayNotPass, MayPass};
+ghost use Rattle.rvm_audit.specs.Merging.{key_of, noted, places_of};
+ghost use Rattle.rvm_audit.specs.Passing.{IsEntryPassed, StretchBlocks, StretchPasses, MayCome, MayNotCome, MayNotPass, MayPass};
 
-use crate::frames::{came, key_of_coming, note_made};
-use crate::places::{Places, lookup};
+use crate::frames::{frame_key, key_of_coming};
+use crate::places::{Places, lookup, note};
+use crate::stretch::{Framed, StretchRef};
 use rvm_frame::Frame;
-use rvm_message::Exchange;
-use rvm_recorder::{Entry, ItemRef};
 use std::alloc::{AllocError, Global};
 use std::collections::BTreeMap;
 
@@ -22,10 +21,10 @@ pub(crate) struct Known {
     pub(crate) spent: Vec<bool>,
 }
 
-/// An item that was passed: how many entries it has, and whether none of them made a frame.
+/// A stretch that was passed: how many entries it has, and whether none of them made a frame.
 #[derive(Clone, Copy)]
 pub(crate) struct Passed {
-    pub(crate) entries: u32,
+    pub(crate) entries: usize,
     pub(crate) is_silent: bool,
 }
 
@@ -42,77 +41,72 @@ impl Known {
         })
     }
 
-    /// Passes an item of a host if it may: each command may be passed, so steps and rounds are passed at once. None if
-    /// it may not.
-    pub(crate) fn pass_item(
+    /// Passes a stretch of a host if it may be passed, as commands always may. None if it may not.
+    pub(crate) fn pass_stretch(
         &mut self,
         alloc: Global,
         host: u8,
         count: u8,
         version: u32,
-        item: ItemRef<'_>,
+        stretch: StretchRef<'_>,
     ) -> Result<Option<Passed>, AllocError>
         requires all { length self.old.spent.items ≡ count }
         ensures { IfOk result (λ o. MatchOption o
-            (ItemBlocks version count host item.entry self.old self.new)
-            (λ p. ItemPasses version count host item.entry p self.old self.new)) }
+            (StretchBlocks version count host stretch.entry self.old self.new)
+            (λ p. StretchPasses version count host stretch.entry p self.old self.new)) }
     {
-        match item {
-            ItemRef::Entry(entry) => self.pass_entry(alloc, host, count, version, entry),
-            ItemRef::Steps(steps) => Ok(Some(Passed {
-                entries: steps.count,
-                is_silent: true,
-            })),
-            ItemRef::Rounds(rounds) => Ok(Some(Passed {
-                entries: rounds.len(),
+        match stretch {
+            StretchRef::Framed(framed) => self.pass_framed(alloc, host, count, version, framed),
+            StretchRef::Quiet(quiet) => Ok(Some(Passed {
+                entries: quiet.len(),
                 is_silent: true,
             })),
         }
     }
 
-    /// Passes an entry of a host if it may, and notes the frame that it made. None if it may not.
-    fn pass_entry(
+    /// Passes an entry of a host if it may be passed, and notes the frame that it made. None if it may not.
+    fn pass_framed(
         &mut self,
         alloc: Global,
         host: u8,
         count: u8,
         version: u32,
-        entry: &Entry,
+        framed: &Framed,
     ) -> Result<Option<Passed>, AllocError>
         requires all { length self.old.spent.items ≡ count }
         ensures { IfOk result (λ o. MatchOption o
-            (MayNotPass version count host (places_of self.old.made) (marked self.old.spent.items) entry.now.event
+            (MayNotPass version count host (places_of self.old.made) (marked self.old.spent.items) framed.now.event
             × (self.new ≡ self.old))
-            (λ p. IsEntryPassed version count host entry.now p self.old self.new)) }
+            (λ p. IsEntryPassed version count host framed.now p self.old self.new)) }
     {
-        if !self.may_pass(alloc, host, count, version, entry.exchange())? {
+        if !self.may_pass(alloc, host, count, version, framed)? {
             return Ok(None);
         }
-        let makes = note_made(alloc, &mut self.made, host, entry, 0)?;
+        let makes = note_framed(alloc, &mut self.made, host, framed)?;
         Ok(Some(Passed {
             entries: 1,
             is_silent: !makes,
         }))
     }
 
-    /// Whether a host's exchange may be passed: it is a command, or the frame that came may have been made.
+    /// Whether a host's entry may be passed: its event is a command, or the frame that came may have been made.
     fn may_pass(
         &self,
         alloc: Global,
         host: u8,
         count: u8,
         version: u32,
-        exchange: &Exchange,
+        framed: &Framed,
     ) -> Result<bool, AllocError>
         requires all { length self.now.spent.items ≡ count }
         ensures yes { IfOk result (λ b. b ≡ true
             → MayPass version count host (places_of self.now.made) (marked self.now.spent.items)
-            exchange.now.event) }
+            framed.now.event) }
         ensures no { IfOk result (λ b. b ≡ false
             → MayNotPass version count host (places_of self.now.made) (marked self.now.spent.items)
-            exchange.now.event) }
+            framed.now.event) }
     {
-        match came(exchange) {
+        match framed.came() {
             None => Ok(true),
             Some((from, frame)) => { self.may_come(alloc, host, count, version, from, frame.get()) }
         }
@@ -157,4 +151,23 @@ impl Known {
     {
         self.spent[host as usize] = true;
     }
+}
+
+/// Notes the frame of a host's entry, if it made one. Returns whether it made one.
+fn note_framed(
+    alloc: Global,
+    places: &mut Places,
+    host: u8,
+    framed: &Framed,
+) -> Result<bool, AllocError>
+    ensures places { OnOk result ((key : List ℕ) → places_of places.new key
+        ≡ noted (key_of host framed.now.frame) 0 (places_of places.old) key) }
+    ensures made { IfOk result (λ made. made ≡ is_some framed.now.frame) }
+{
+    let Some(bytes) = framed.made() else {
+        return Ok(false);
+    };
+    let key = frame_key(alloc, host, bytes)?;
+    note(places, key, 0)?;
+    Ok(true)
 }

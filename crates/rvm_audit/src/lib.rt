@@ -8,7 +8,7 @@
 //! Hosts, Orders, Worlds and Cuts.
 //!
 //! To be read in this order: `laws`; `error`, `places`, `frames`, `placed`, `part`, `merge`, `merging`, `order`, `list`,
-//! `known`, `passing`, `cuts`, `lines`.
+//! `stretch`, `known`, `passing`, `outline`, `cuts`, `lines`.
 #![tactic(auto)]
 
 mod cuts;
@@ -21,15 +21,19 @@ mod list;
 mod merge;
 mod merging;
 mod order;
+mod outline;
 mod part;
 mod passing;
 mod placed;
 mod places;
+mod stretch;
 
 pub use cuts::are_contradictory;
 pub use error::AuditError;
 pub use lines::write_order;
 pub use list::{Audit, audit_all};
 pub use order::{audit, audit_in_runs, dead_ends_have_no_order, the_guest_of_an_order_never_moves};
+pub use outline::{Outline, OutlineAudit, are_outlines_contradictory, audit_outlines};
 pub use part::Place;
 pub use placed::{Events, HostTurns, Order, Piece};
+pub use stretch::{Stretch, Stretches};

@@ -9,7 +9,7 @@ use crate::merging::merge_all;
 use crate::part::{Part, Place};
 use crate::placed::Order;
 use rvm_mem::PagedMemory;
-use rvm_recorder::Journal;
+use rvm_recorder::{Item, Journal};
 use std::alloc::{AllocError, Global};
 
 /// How the audit of the journals of a list ended.
@@ -41,10 +41,10 @@ pub fn audit_all<M: PagedMemory + Drop>(
 }
 
 /// What a merge reads of each of these journals.
-pub(crate) fn parts_of<'a, M: PagedMemory + Drop>(
+fn parts_of<'a, M: PagedMemory + Drop>(
     alloc: Global,
     journals: &[&'a Journal<M>],
-) -> Result<Vec<Part<'a>>, AllocError>
+) -> Result<Vec<Part<'a, Item>>, AllocError>
     ensures long { IfOk result (λ parts. length parts.items ≡ length journals.now) }
     ensures each { IfOk result (λ parts. ArePartsOf (histories_of journals.now) parts.items) }
 {
@@ -56,10 +56,7 @@ pub(crate) fn parts_of<'a, M: PagedMemory + Drop>(
 }
 
 /// The index of the first journal that is not at its end, if there is one.
-pub(crate) fn unfinished<M: PagedMemory + Drop>(
-    journals: &[&Journal<M>],
-    places: &[Place],
-) -> Option<usize>
+fn unfinished<M: PagedMemory + Drop>(journals: &[&Journal<M>], places: &[Place]) -> Option<usize>
     requires long { length places.now ≡ length journals.now }
     ensures { MatchOption result
         ((x : ℕ) → x < length journals.now → length (entries_of (histories_of journals.now) x) ≤ taken places.now x)

@@ -9,6 +9,7 @@ ghost use Rattle.rvm_audit.specs.Orders.{Journals};
 use crate::merge::Merge;
 use crate::part::{Part, Place};
 use crate::placed::Order;
+use rvm_recorder::Item;
 use std::alloc::{AllocError, Global};
 
 /// The end of a merge: the events in order, and how much of each journal was taken.
@@ -19,7 +20,7 @@ pub(crate) struct Ended {
 }
 
 /// Merges at most eight journals until none can go on. At each point the lowest host goes on whose next item can stand.
-pub(crate) fn merge_all(alloc: Global, parts: &[Part<'_>]) -> Result<Ended, AllocError>
+pub(crate) fn merge_all(alloc: Global, parts: &[Part<'_, Item>]) -> Result<Ended, AllocError>
     requires few { length parts.now ≤ 8 }
     requires sized { AreSized parts.now }
     ensures long { IfOk result (λ e. length e.places.items ≡ length parts.now) }
@@ -51,7 +52,7 @@ fn take_turn(
     alloc: Global,
     merge: &mut Merge,
     places: &mut Vec<Place>,
-    parts: &[Part<'_>],
+    parts: &[Part<'_, Item>],
     host: u8,
 ) -> Result<u8, AllocError>
     requires few { length parts.now ≤ 8 }
@@ -65,7 +66,7 @@ fn take_turn(
     ensures stands { OnOk result (Stands parts.now places.new.items merge.new) }
     ensures waits { IfOk result (λ next. AllWait parts.now places.new.items (places_of merge.new.places) next) }
 {
-    let part = parts[host as usize];
+    let part = &parts[host as usize];
     let place = places[host as usize];
     let made = merge.made;
     let hosts = parts.len() as u8;

@@ -7,11 +7,11 @@ ghost use Rattle.rvm_recorder.specs.Replay.{IsReplay};
 use rvm_mem::PagedMemory;
 use rvm_recorder::{Item, Journal};
 
-/// The items of a journal, and the version of its host's streams.
-#[derive(Clone, Copy)]
-pub(crate) struct Part<'a> {
+/// The items of a journal, or the stretches that are kept of it, and the version of its host's streams.
+#[derive(Drop)]
+pub(crate) struct Part<'a, I> {
     pub(crate) version: u32,
-    pub(crate) items: &'a [Item],
+    pub(crate) items: &'a [I],
 }
 
 /// How much of a journal was taken: this many items, which have this many entries together.
@@ -21,9 +21,9 @@ pub struct Place {
     pub entries: usize,
 }
 
-impl<'a> Part<'a> {
+impl<'a> Part<'a, Item> {
     /// What a merge reads of this journal.
-    pub(crate) fn of<M: PagedMemory + Drop>(journal: &'a Journal<M>) -> Part<'a>
+    pub(crate) fn of<M: PagedMemory + Drop>(journal: &'a Journal<M>) -> Part<'a, Item>
         ensures version { result.version ≡ journal.now.opening.version }
         ensures entries { all_of result.items.now ≡ journal.now.entries }
         ensures replay { IsReplay journal.now.opening journal.now.entries }

@@ -9,13 +9,14 @@ ghost use Rattle.rvm_audit.specs.Passing.{AllBlocked, EndsJournal, HasPassed, Is
 use crate::known::Known;
 use crate::merging::woken;
 use crate::part::{Part, Place};
+use crate::stretch::Stretch;
 use std::alloc::{AllocError, Global};
 
 /// Goes through at most eight journals until none can go on, as if each host whose journal `cuts` marks had made any
 /// frame after the end of its journal. Returns how much of each was taken.
 pub(crate) fn pass_all(
     alloc: Global,
-    parts: &[Part<'_>],
+    parts: &[Part<'_, Stretch>],
     cuts: &[bool],
 ) -> Result<Vec<Place>, AllocError>
     requires few { length parts.now ≤ 8 }
@@ -42,13 +43,13 @@ pub(crate) fn pass_all(
     Err(AllocError)
 }
 
-/// Passes a host's next item if it may. Returns the host to ask next; all hosts below that one are blocked, and a
+/// Passes a host's next stretch if it may be passed. Returns the host to ask next; all hosts below that one are blocked, and a
 /// blocked host is asked again only after a frame was made, or a journal that was cut was taken to its end.
 fn pass_turn(
     alloc: Global,
     known: &mut Known,
     places: &mut Vec<Place>,
-    parts: &[Part<'_>],
+    parts: &[Part<'_, Stretch>],
     cuts: &[bool],
     host: u8,
 ) -> Result<u8, AllocError>
@@ -62,18 +63,18 @@ fn pass_turn(
     ensures passing { OnOk result (IsPassing parts.now cuts.now places.new.items known.new) }
     ensures blocked { IfOk result (λ next. AllBlocked parts.now cuts.now places.new.items known.new next) }
 {
-    let part = parts[host as usize];
+    let part = &parts[host as usize];
     let place = places[host as usize];
-    let Some(item) = part.items.get(place.items) else {
+    let Some(stretch) = part.items.get(place.items) else {
         return Ok(end_journal(known, cuts[host as usize], host));
     };
     let hosts = parts.len() as u8;
-    match known.pass_item(alloc, host, hosts, part.version, item.look())? {
+    match known.pass_stretch(alloc, host, hosts, part.version, stretch.look())? {
         None => Ok(host + 1),
         Some(passed) => {
             places[host as usize] = Place {
                 items: place.items + 1,
-                entries: place.entries + passed.entries as usize,
+                entries: place.entries + passed.entries,
             };
             Ok(woken(passed.is_silent, host))
         }

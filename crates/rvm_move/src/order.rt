@@ -7,7 +7,6 @@ ghost use Rattle.rvm_command.specs.Flushed.{is_flushed};
 ghost use Rattle.rvm_core.specs.EventLines.{event_lines};
 ghost use Rattle.rvm_move.specs.Ended.{IsUntold};
 ghost use Rattle.rvm_move.specs.Orders.{IsUnordered, IsWritten};
-ghost use Rattle.rvm_recorder.specs.Replay.{IsReplay};
 
 use rvm_audit::{Order, audit_in_runs, write_order as write_order_lines};
 use rvm_command::flush::flush;
@@ -40,8 +39,8 @@ pub(crate) fn write_order<M: PagedMemory + Drop, O: Write + Drop, E: Write>(
         → IsUnordered first.now second.now (E.contents errors.old) (E.contents errors.new)) }
     ensures untold { OnErr result (IsUntold (IsUnordered first.now second.now)) }
 {
-    know_replays(first);
-    know_replays(second);
+    first.know_answers();
+    second.know_answers();
     match audit_in_runs(alloc, first, second) {
         Ok(order) => match write_whole(output, &order) {
             Ok(()) => Ok(0),
@@ -49,13 +48,6 @@ pub(crate) fn write_order<M: PagedMemory + Drop, O: Write + Drop, E: Write>(
         },
         Err(error) => tell(Refused::from(Refusal::from(error)), errors),
     }
-}
-
-/// Proves that each reply and each frame of a journal is the one that the protocol gives at its place.
-fn know_replays<M: PagedMemory + Drop>(journal: &Journal<M>)
-    ensures { IsReplay journal.now.opening journal.now.entries }
-{
-    let _items = journal.items();
 }
 
 /// Writes the events of an order, and flushes them.

@@ -1,6 +1,9 @@
 -- How an audit of journals ended.
-use Rattle.std.proofs.Common.{arith, ◌≡◌, ◌∙◌, ℕ, zero, suc, Bool, true, false, List, [], ◌∷◌, ◌++◌, ◌+◌, Global, Vec, length, length-append, Option, Some, Result, Ok, Err, codes, refl, ap, subst, inl, inr}
-use Rattle.std.specs.Prelude.{IfOk, OnErr, slice_get}
+use Rattle.std.proofs.Common.{arith, ◌≡◌, ◌∙◌, ℕ, zero, suc, Bool, true, false, List, [], ◌∷◌, ◌++◌, ◌+◌, length, length-append, map, Option, Some, Result, Ok, Err, codes, refl, ap, get_or, subst, sym, take, ◌<◌, inl, inr}
+use Rattle.std.specs.Prelude.{IfOk, OnErr, OnOk, slice_get, ◌≤◌}
+use Rattle.std.proofs.lemmas.List.{length-map, map-append, take_more}
+use Rattle.rvm_audit.specs.Outlines.{AreOutlinesOf, IsOutlineOf, PlainOutline, outlines_in}
+use Rattle.rvm_audit.proofs.Outlined.{outlined_more}
 use Rattle.std.specs.Io.KnownBytes.{Appends}
 use denote.Ref.{Bor}
 use Rattle.rvm_audit.specs.Audits.{IsAudit, histories_of}
@@ -8,10 +11,8 @@ use Rattle.rvm_audit.specs.Cuts.{AreContradicted, AreExplained}
 use Rattle.rvm_audit.specs.ListOrders.{journals_of}
 use Rattle.rvm_audit.specs.Orders.{IsDeadEnd, IsOrder, Journals, cut}
 use Rattle.rvm_audit.specs.Parts.{taken}
-use Rattle.rvm_audit.specs.Rule.{IsMerge}
 use Rattle.rvm_audit.specs.Worlds.{AreNew, IsWorldRun}
 use Rattle.rvm_audit.specs.declared.list.Audit.TheVariants.{NoOrder}
-use Rattle.rvm_audit.specs.declared.part.Place.{Place}
 use Rattle.rvm_board.specs.Guest.{GuestState}
 use Rattle.rvm_command.specs.Command.{refused_text}
 use Rattle.rvm_command.specs.Refusals.{IsTold, refused}
@@ -19,13 +20,16 @@ use Rattle.rvm_core.specs.declared.event.Event.{Event}
 use Rattle.rvm_guest.specs.TheGuest.{board}
 use Rattle.rvm_guest.specs.Valid.{is_valid}
 use Rattle.rvm_protocol.specs.World.{new_world}
-use Rattle.rvm_recorder.specs.History.{History, Recording}
+use Rattle.rvm_recorder.specs.History.{History, Recording, count_of}
 use Rattle.rvm_refusal.specs.declared.refusal.Refusal.TheVariants as refusal
 use Rattle.rvm_replay.specs.Audited.{AreReplayed, IsWritten, journals_in}
-use Rattle.rvm_replay.specs.Findings.{EndsAt, HasAuditStatus, HasFindingStatus, HasNoOrder, IsFaultTold, IsUnordered, IsUntoldAudit, IsUntoldFinding, IsUntoldNoOrder, cuts_of, histories_in, is_cut, name_of, refuted_text, undecided_text}
+use Rattle.rvm_replay.specs.Findings.{EndsAt, capacity_of, text_of, HasAuditStatus, IsExtent, HasFindingStatus, HasNoOrder, IsFaultTold, IsUnordered, IsUntoldAudit, IsUntoldFinding, IsUntoldNoOrder, cuts_of, histories_in, is_cut, name_of, refuted_text, undecided_text}
 use Rattle.rvm_replay.specs.FileFaults.{fault_line}
 use Rattle.rvm_replay.specs.Unaudited.{IsJournalsFault}
 use Rattle.rvm_replay.specs.declared.audit.AuditText.{AuditText}
+use Rattle.rvm_replay.specs.declared.audit.Extent.{Extent}
+use Rattle.rvm_replay.specs.declared.audit.OrderText.{OrderText}
+use Rattle.rvm_replay.specs.declared.audit.OrderText.TheVariants.{Events, Chart}
 use Rattle.rvm_replay.specs.declared.audit.Unordered.TheVariants.{Contradicted, Undecided}
 use Rattle.rvm_replay.specs.declared.file.JournalFile.{JournalFile}
 use Rattle.rvm_replay.specs.declared.file.JournalsFault.{JournalsFault}
@@ -38,17 +42,29 @@ pub ends_at : (all : List Recording) (places : ℕ → ℕ)
     → EndsAt all places
 ends_at all places end = record { dead = end.0; events = end.1.0; order = end.1.1 }
 
+-- how far they have an order
+pub extent_is : (all : List Recording) (extent : Extent)
+    → IsDeadEnd (journals_in all) (taken extent.places.items)
+    × ((events : List Event) × IsOrder (cut (taken extent.places.items) (journals_in all)) events)
+    → extent.counts.items ≡ map count_of all → IsExtent all extent
+extent_is all extent end counts_are = record { ends = ends_at all (taken extent.places.items) end; counts_are = counts_are }
+
+-- there are as many numbers as hosts
+pub few_counts : (all : List Recording) (counts : List ℕ) → counts ≡ map count_of all → length all ≤ 8 → length counts ≤ 8
+few_counts all counts is few =
+    let size = ap length is in omega (arith, size, few, length-map all (λ (r : Recording). count_of r))
+
 -- journals that have no order contradict one another, or what was cut off may explain that
-module _ (files : List JournalFile) (all : List Recording) (js js1 js2 : List (Bor History)) (places : Vec Place Global) (cuts cuts' : List Bool)
+module _ (files : List JournalFile) (all : List Recording) (js js1 js2 : List (Bor History)) (extent : Extent) (cuts cuts' : List Bool)
     (same : histories_of js ≡ histories_in all) (is1 : js1 ≡ js) (is2 : js2 ≡ js)
-    (audit : IsAudit (journals_of (histories_of js1)) (NoOrder places))
+    (audit : IsAudit (journals_of (histories_of js1)) (NoOrder extent.places)) (counts_are : extent.counts.items ≡ map count_of all)
     (marks : cuts ≡ cuts_of files (length all)) (marked_are : cuts' ≡ cuts) (found : Bool) where
-  there : EndsAt all (taken places.items)
-  there = ends_at all (taken places.items)
-      (subst (λ hs. IsAudit (journals_of hs) (NoOrder places)) (ap histories_of is1 ∙ same) audit)
+  there : IsExtent all extent
+  there = extent_is all extent
+      (subst (λ hs. IsAudit (journals_of hs) (NoOrder extent.places)) (ap histories_of is1 ∙ same) audit) counts_are
 
   pub contradicted_if : (found ≡ true → AreContradicted (histories_of js2) cuts') → found ≡ true
-      → IsUnordered files all (Contradicted places)
+      → IsUnordered files all (Contradicted extent)
   contradicted_if holds is = (
     there,
     subst (λ hs. AreContradicted hs (cuts_of files (length all))) (ap histories_of is2 ∙ same)
@@ -56,12 +72,29 @@ module _ (files : List JournalFile) (all : List Recording) (js js1 js2 : List (B
   )
 
   pub explained_if : (found ≡ false → AreExplained (histories_of js2) cuts') → found ≡ false
-      → IsUnordered files all (Undecided places)
+      → IsUnordered files all (Undecided extent)
   explained_if holds is = (
     there,
     subst (λ hs. AreExplained hs (cuts_of files (length all))) (ap histories_of is2 ∙ same)
         (subst (AreExplained (histories_of js2)) (marked_are ∙ marks) (holds is)),
   )
+
+-- the same of outlines
+module _ (files : List JournalFile) (all : List Recording) (extent : Extent) (cuts cuts' : List Bool) (there : IsExtent all extent)
+    (marks : cuts ≡ cuts_of files (length all)) (marked_are : cuts' ≡ cuts) (found : Bool) where
+  pub outlines_contradicted : (found ≡ true → AreContradicted (histories_in all) cuts') → found ≡ true
+      → IsUnordered files all (Contradicted extent)
+  outlines_contradicted holds is = (there, subst (AreContradicted (histories_in all)) (marked_are ∙ marks) (holds is))
+
+  pub outlines_explained : (found ≡ false → AreExplained (histories_in all) cuts') → found ≡ false
+      → IsUnordered files all (Undecided extent)
+  outlines_explained holds is = (there, subst (AreExplained (histories_in all)) (marked_are ∙ marks) (holds is))
+
+-- a fault of journals whose events are asked for
+pub events_fault : (files : List JournalFile) (image : List ℕ) (text : OrderText) (fault : JournalsFault)
+    → IsJournalsFault 4294967295 files image fault → IsJournalsFault (capacity_of (text_of text)) files image fault
+events_fault files image Events fault is = is
+events_fault files image Chart fault is = is
 
 -- for each host there is a mark
 pub marks_long : (files : List JournalFile) (n : ℕ) → length (cuts_of files n) ≡ n
@@ -129,9 +162,9 @@ module _ (files : List JournalFile) (all : List Recording) (text : AuditText) (o
   unwritten told = inr (inr told)
 
   -- the order was written
-  pub in_order : (events : List Event) → IsMerge (journals_in all) events → IsWritten text all events out out' → errors' ≡ errors
+  pub in_order : (events : List Event) → IsOrder (journals_in all) events → IsWritten text all events out out' → errors' ≡ errors
       → HasFindingStatus 0 files all text out out' errors errors'
-  in_order events merge written same = (record { events = events; merge = merge; written = written }, same)
+  in_order events order written same = (record { events = events; order = order; written = written }, same)
 
 -- the same, where a report is not complete
 module _ (files : List JournalFile) (all : List Recording) (text : AuditText) (out out' : Option (List ℕ)) where
@@ -158,7 +191,7 @@ module _ (files : List JournalFile) (image : List ℕ) (all : List Recording) (a
       all = all;
       replayed = are;
       ordered = ordered;
-      one_guest = has_one_guest files image all ordered.events are ordered.merge.order law;
+      one_guest = has_one_guest files image all ordered.events are ordered.order law;
     },
     same,
   )
@@ -187,7 +220,7 @@ told_of files (journals.File i f) = (fault_line (name_of (slice_get files i)) f,
 
 -- journals are not audited
 module _ (files : List JournalFile) (image : List ℕ) (text : AuditText) (out out' : Option (List ℕ)) (fault : JournalsFault)
-    (reason : IsJournalsFault files image fault) where
+    (reason : IsJournalsFault (capacity_of text) files image fault) where
   pub not_audited : (errors errors' : Option (List ℕ)) → IsFaultTold files fault errors errors' → out' ≡ out
       → HasAuditStatus 1 files image text out out' errors errors'
   not_audited errors errors' told same = inl (record { fault = fault; reason = reason; told = told; same = same })
@@ -195,3 +228,30 @@ module _ (files : List JournalFile) (image : List ℕ) (text : AuditText) (out o
   pub not_audited_untold : out' ≡ out → IsUntoldAudit files image text out out'
   not_audited_untold same =
       let told = told_of files fault in (1, told.0, not_audited (Some []) (Some told.0) told.1 same)
+
+-- what was written is of the order of the rule
+pub with_merge : {F : Type 0} (r : Result Unit F) (Merge Written : Type 0) → Merge → OnOk r Written → OnOk r (Merge × Written)
+with_merge (Ok done) Merge Written merge written = (merge, written)
+with_merge (Err e) Merge Written merge written = tt
+
+-- a text that is asked for by its name
+pub untold_as : {F : Type 0} (r : Result ℕ F) (files : List JournalFile) (image : List ℕ) (named text : AuditText)
+    (out out' : Option (List ℕ)) → text ≡ named → OnErr r (IsUntoldAudit files image named out out')
+    → OnErr r (IsUntoldAudit files image text out out')
+untold_as r files image named text out out' is untold =
+    subst (λ t. OnErr r (IsUntoldAudit files image t out out')) (sym is) untold
+
+-- one outline more
+pub one_outline : (all : List Recording) (i : ℕ) (r : Recording) (refs more : List (Bor PlainOutline)) (t : Bor PlainOutline)
+    → i < length all → get_or all i r ≡ r → AreOutlinesOf (histories_in (take i all)) (outlines_in refs) → IsOutlineOf r.journal t.now
+    → more ≡ refs ++ t ∷ [] → AreOutlinesOf (histories_in (take (i + 1) all)) (outlines_in more)
+one_outline all i r refs more t less at so own is =
+    subst (λ hs. AreOutlinesOf hs (outlines_in more))
+    (sym (map-append (λ (s : Recording). s.journal) (take i all) (r ∷ []))
+    ∙ ap (λ (s : Recording). histories_in (take i all ++ s ∷ [])) (sym at) ∙ ap histories_in (sym (take_more all i r less)))
+    (outlined_more (histories_in (take i all)) r.journal (outlines_in refs) (outlines_in more) t.now so own
+    (ap outlines_in is ∙ map-append (λ (b : Bor PlainOutline). b.now) refs (t ∷ [])))
+
+pub none_outlined : (all : List Recording) → AreOutlinesOf (histories_in (take 0 all)) []
+none_outlined [] = record { count_is = refl; each = λ x t at. absurd cc }
+none_outlined (r ∷ all) = record { count_is = refl; each = λ x t at. absurd cc }

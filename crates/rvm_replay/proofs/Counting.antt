@@ -70,6 +70,12 @@ all_add entries =
     (same (sum_by (λ e. frames_in e.event) entries)) (same (sum_by (λ e. moves_in e.reply) entries))
     (same (sum_by (λ e. length (taken_in e)) entries))
 
+-- the counts of more entries
+pub all_added : (sum new more : Counts) (entries xs : List PlainEntry) → new ≡ plus sum more → more ≡ counts_of xs
+    → sum ≡ counts_of entries → new ≡ counts_of (entries ++ xs)
+all_added sum new more entries xs is more_is so =
+    is ∙ (λ i. plus (so i) (more_is i)) ∙ all_add xs entries
+
 -- one entry
 pub entry_adds : (c : Counts) (e : PlainEntry) → c ≡ counts_at e → Adds c (e ∷ [])
 entry_adds c e is =

@@ -6,12 +6,10 @@ use Rattle.rvm_recorder.specs.History.{History, Recording}
 use Rattle.rvm_audit.specs.Audits.{histories_of}
 use Rattle.std.proofs.KnownBytes.{Appends-kept}
 use Rattle.std.specs.Io.KnownBytes.{Keeps}
-use Rattle.std.proofs.Common.{◌⊎◌, inr}
-use Rattle.std.specs.Prelude.{IfOk, OnOk, Option, Result, Ok, Err}
-use Rattle.rvm_audit.specs.Rule.{IsMerge}
+use Rattle.std.specs.Prelude.{OnOk, Option, Result, Ok, Err}
 use Rattle.rvm_core.specs.EventLines.{event_lines}
 use Rattle.rvm_core.specs.declared.event.Event.{Event}
-use Rattle.rvm_replay.specs.Audited.{IsOrdered, IsWritten, journals_in}
+use Rattle.rvm_replay.specs.Audited.{IsWritten}
 use Rattle.rvm_replay.specs.Charts.{chart_of}
 use Rattle.rvm_replay.specs.Counts.{summary_of}
 use Rattle.rvm_replay.specs.declared.audit.AuditText.{AuditText}
@@ -43,9 +41,9 @@ kept : (text : AuditText) (all : List Recording) (events : List Event) (before m
     → IsWritten text all events before mid → Keeps mid after → IsWritten text all events before after
 kept Summary all events before mid after written keeps = Appends-kept before mid after (summary_of all) written keeps
 kept Order all events before mid after written keeps =
-    Appends-kept before mid after (event_lines (length all) events) written keeps
+    (written.0, Appends-kept before mid after (event_lines (length all) events) written.1 keeps)
 kept Chart all events before mid after written keeps =
-    Appends-kept before mid after (chart_of (length all) events) written keeps
+    (written.0, Appends-kept before mid after (chart_of (length all) events) written.1 keeps)
 
 -- so it is of what was flushed
 pub written_kept : {F : Type 0} (text : AuditText) (all : List Recording) (events : List Event) (before mid after : Option (List ℕ))
@@ -53,18 +51,3 @@ pub written_kept : {F : Type 0} (text : AuditText) (all : List Recording) (event
     → OnOk r (IsWritten text all events before after)
 written_kept text all events before mid after (Ok done) written keeps = kept text all events before mid after written keeps
 written_kept text all events before mid after (Err fault) written keeps = tt
-
--- an order was found, and what was asked for was written
-pub ordered_if : {F : Type 0} (r : Result ℕ F) (text : AuditText) (all : List Recording) (events : List Event)
-    (before after : Option (List ℕ)) → IsMerge (journals_in all) events
-    → IfOk r (λ s. s ≡ 0 → IsWritten text all events before after)
-    → IfOk r (λ s. s ≡ 0 → IsOrdered text all before after)
-ordered_if (Ok s) text all events before after merge written =
-    λ is. record { events = events; merge = merge; written = written is }
-ordered_if (Err e) text all events before after merge written = tt
-
--- where a write failed, that was told
-pub told_if : {F : Type 0} (r : Result ℕ F) (Same Told : Type 0) → IfOk r (λ s. s ≡ 1 → Told)
-    → IfOk r (λ s. s ≡ 1 → Same ⊎ Told)
-told_if (Ok s) Same Told told = λ is. inr (told is)
-told_if (Err e) Same Told told = tt

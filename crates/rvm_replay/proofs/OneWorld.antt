@@ -1,6 +1,5 @@
 -- The hosts that journals are of are those of a new world.
-use Rattle.std.proofs.Common.{◌≡◌, ◌∙◌, ℕ, ◌<◌, ◌==◌, ◌||◌, Bool, true, false, if◌then◌else◌, is_some, List, get_or, length, Option, Some, None, Result, Ok, Err, refl, sym, ap, subst}
-use Rattle.std.specs.Prelude.{IfOk}
+use Rattle.std.proofs.Common.{◌≡◌, ◌∙◌, ℕ, ◌<◌, ◌==◌, ◌||◌, Bool, true, false, if◌then◌else◌, is_some, List, get_or, length, Option, Some, None, refl, sym, ap, subst}
 use Rattle.std.proofs.lemmas.Bool.{eq-eqb, eqb-true, true≢false}
 use Rattle.std.proofs.lemmas.List.{get_or-map, length-map}
 use Rattle.std.proofs.lemmas.Option.{same_Some, slice_get-get_or}
@@ -16,10 +15,9 @@ use Rattle.rvm_audit.specs.Orders.{IsOrder, Journals}
 use Rattle.rvm_audit.specs.Worlds.{AreNew, IsWorldRun}
 use Rattle.rvm_journal.specs.declared.header.Header.{Header}
 use Rattle.rvm_journal.specs.declared.header.Image.{Image}
-use Rattle.rvm_replay.specs.declared.audit.AuditText.{AuditText}
 use Rattle.rvm_replay.specs.declared.file.JournalFile.{JournalFile}
 use Rattle.rvm_replay.specs.declared.headers.Wanted.TheVariants.{OfHost, WithGuest}
-use Rattle.rvm_replay.specs.Audited.{AreAudited, AreReplayed, HasDone, HasOneGuest, IsHostBy, IsOnlyOne, IsOrdered, is_wanted, journals_in}
+use Rattle.rvm_replay.specs.Audited.{AreReplayed, HasDone, HasOneGuest, IsHostBy, IsOnlyOne, is_wanted, journals_in}
 use Rattle.rvm_replay.specs.Journals.{header_number}
 use Rattle.rvm_replay.specs.Journals.{IsGuestNamed}
 
@@ -173,19 +171,3 @@ has_one_guest files image all events are order law =
           (law 3 origin g.0 (λ x. 4096) (journals_in all) events
           (valid_of image are.world.opening.guest g.0 g.1) (new files image all are) order);
     }
-
--- what `audit_journals` says of its status, from what it is told of the order
-pub audited_if : {E : Type 0} (status : Result ℕ E) (files : List JournalFile) (image : List ℕ) (text : AuditText)
-    (before after : Option (List ℕ)) (all : List Recording) → AreReplayed files image all
-    → ((version origin : ℕ) (g : GuestState) (limits : ℕ → ℕ) (j : Journals) (events : List Event)
-    → is_valid g.guest ≡ true → AreNew version origin g limits j.openings → IsOrder j events
-    → IsWorldRun (new_world board version origin g.guest j.openings.count limits) origin g.guest j events)
-    → IfOk status (λ s. s ≡ 0 → IsOrdered text all before after)
-    → IfOk status (λ s. s ≡ 0 → AreAudited files image text before after)
-audited_if (Err e) files image text before after all are law ordered = tt
-audited_if (Ok s) files image text before after all are law ordered = λ is. record {
-  all = all;
-  replayed = are;
-  ordered = ordered is;
-  one_guest = has_one_guest files image all (ordered is).events are (ordered is).merge.order law;
-}

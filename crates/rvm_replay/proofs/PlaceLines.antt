@@ -4,7 +4,6 @@ use Rattle.std.proofs.KnownBytes.{Appends-trans}
 use Rattle.std.proofs.lemmas.List.{at_drop_all, at_drop_more, take_more}
 use Rattle.std.specs.Io.KnownBytes.{Appends}
 use Rattle.rvm_journal.specs.Headers.{header_at}
-use Rattle.rvm_recorder.specs.History.{Recording}
 use Rattle.rvm_replay.specs.Audited.{is_wanted}
 use Rattle.rvm_replay.specs.PlaceLines.{journal_name, place_line, place_lines}
 use Rattle.rvm_replay.specs.declared.file.JournalFile.{JournalFile}
@@ -32,7 +31,7 @@ nowhere x files i all = at_drop_all (journal_name x) files i all
 
 -- one host more
 module _ (files : List JournalFile) (places : ℕ → ℕ) where
-  lines_push : (x : ℕ) (rs : List Recording) (r : Recording)
+  lines_push : (x : ℕ) (rs : List ℕ) (r : ℕ)
       → place_lines files places x (rs ++ r ∷ [])
       ≡ place_lines files places x rs ++ place_line files (x + length rs) (places (x + length rs)) r
   lines_push x [] r =
@@ -46,7 +45,7 @@ module _ (files : List JournalFile) (places : ℕ → ℕ) where
       ∙ sym (append_assoc first (place_lines files places (x + 1) rs)
       (place_line files (x + length (s ∷ rs)) (places (x + length (s ∷ rs))) r))
 
-  lines_more : (all : List Recording) (i : ℕ) (r : Recording) → i < length all → get_or all i r ≡ r
+  lines_more : (all : List ℕ) (i : ℕ) (r : ℕ) → i < length all → get_or all i r ≡ r
       → place_lines files places 0 (take (i + 1) all)
       ≡ place_lines files places 0 (take i all) ++ place_line files i (places i) r
   lines_more all i r less is =
@@ -57,7 +56,7 @@ module _ (files : List JournalFile) (places : ℕ → ℕ) where
       ∙ ap (λ x. place_lines files places 0 (take i all) ++ place_line files x (places x) r) long
 
   -- one host more is reported
-  pub host_more : (before mid after : Option (List ℕ)) (all : List Recording) (i : ℕ) (r : Recording) (place : ℕ)
+  pub host_more : (before mid after : Option (List ℕ)) (all : List ℕ) (i : ℕ) (r : ℕ) (place : ℕ)
       → i < length all → get_or all i r ≡ r → Appends before mid (place_lines files places 0 (take i all))
       → place ≡ places i → Appends mid after (place_line files i place r)
       → Appends before after (place_lines files places 0 (take (i + 1) all))

@@ -18,7 +18,7 @@ use Rattle.rvm_replay.specs.declared.file.JournalsFault.{JournalsFault}
 use Rattle.rvm_replay.proofs.AuditEnds.{told_of}
 
 -- the journals are not audited
-module _ (files : List JournalFile) (image : List ℕ) (turn : ℕ) (fault : JournalsFault) (reason : IsJournalsFault files image fault)
+module _ (files : List JournalFile) (image : List ℕ) (turn : ℕ) (fault : JournalsFault) (reason : IsJournalsFault 4294967295 files image fault)
   where
     pub not_audited : (out errors errors' : Option (List ℕ)) → IsFaultTold files fault errors errors'
         → IsNoTurn 1 files image turn out out errors errors'

@@ -7,7 +7,7 @@ use Rattle.rvm_protocol.specs.World.{new_world}
 use Rattle.rvm_host.specs.Hosts.{new_host}
 use Rattle.rvm_recorder.specs.History.{Recording}
 use Rattle.rvm_audit.specs.ListOrders.{journals_of}
-use Rattle.rvm_audit.specs.Orders.{Journals}
+use Rattle.rvm_audit.specs.Orders.{IsOrder, Journals}
 use Rattle.rvm_audit.specs.Rule.{IsMerge}
 use Rattle.rvm_audit.specs.Worlds.{IsWorldRun}
 use Rattle.rvm_core.specs.declared.event.Event.{Event}
@@ -99,16 +99,18 @@ abbrev pub journals_in : List Recording → Journals
 journals_in all = journals_of (map (λ r. r.journal) all)
 
 -- what was asked for was written of an order of the journals of these hosts: what the journals add up to, a line for each
--- host and one for all; the events, a line each; or a chart of them
+-- host and one for all; or, if it is the order of the rule, the events, a line each, or a chart of them
 abbrev pub IsWritten : AuditText → List Recording → List Event → (before after : Option (List ℕ)) → Type 0
 IsWritten Summary all events before after = Appends before after (summary_of all)
-IsWritten Order all events before after = Appends before after (event_lines (length all) events)
-IsWritten Chart all events before after = Appends before after (chart_of (length all) events)
+IsWritten Order all events before after =
+    IsMerge (journals_in all) events × Appends before after (event_lines (length all) events)
+IsWritten Chart all events before after =
+    IsMerge (journals_in all) events × Appends before after (chart_of (length all) events)
 
--- the journals of these hosts have an order, that of the rule, and what was asked for of it was written
+-- the journals of these hosts have an order, and what was asked for of it was written
 pub record IsOrdered (text : AuditText) (all : List Recording) (before after : Option (List ℕ)) : Type 0 where
   pub events : List Event
-  pub merge : IsMerge (journals_in all) events
+  pub order : IsOrder (journals_in all) events
   pub written : IsWritten text all events before after
 
 -- a run of the world whose hosts these are, in which the guest of the image, with which the host of this header began,

@@ -1,5 +1,5 @@
 -- What an audit of journals in files found, and the status that says so.
-use Rattle.std.specs.Prelude.{◌≡◌, ◌⊎◌, ℕ, zero, suc, ◌&&◌, not, Bool, List, [], ◌∷◌, ◌++◌, codes, length, map, Option, None, Some, slice_get}
+use Rattle.std.specs.Prelude.{◌≡◌, ◌⊎◌, ⊤, ℕ, ◌≤◌, zero, suc, ◌&&◌, not, Bool, List, [], ◌∷◌, ◌++◌, codes, length, map, Option, None, Some, slice_get}
 use Rattle.std.specs.Io.KnownBytes.{Appends}
 use Rattle.std.specs.List.{list_any}
 use Rattle.rvm_audit.specs.Cuts.{AreContradicted, AreExplained}
@@ -10,7 +10,8 @@ use Rattle.rvm_command.specs.Refusals.{IsTold, refused}
 use Rattle.rvm_core.specs.declared.event.Event.{Event}
 use Rattle.rvm_journal.specs.Headers.{header_at}
 use Rattle.rvm_journal.specs.Replaying.{is_whole}
-use Rattle.rvm_recorder.specs.History.{History, Recording}
+use Rattle.rvm_recorder.specs.History.{History, Recording, count_of}
+use Rattle.rvm_recorder.specs.Reopening.{most_replayed}
 use Rattle.rvm_command.specs.Command.{refused_text}
 use Rattle.rvm_refusal.specs.declared.refusal.Refusal.TheVariants.{LinkFault, NoOrder, OutOfMemory}
 use Rattle.rvm_replay.specs.Audited.{AreAudited, AreReplayed, IsOrdered, is_wanted, journals_in}
@@ -18,6 +19,10 @@ use Rattle.rvm_replay.specs.FileFaults.{fault_line}
 use Rattle.rvm_replay.specs.PlaceLines.{place_lines}
 use Rattle.rvm_replay.specs.Unaudited.{IsJournalsFault}
 use Rattle.rvm_replay.specs.declared.audit.AuditText.{AuditText}
+use Rattle.rvm_replay.specs.declared.audit.AuditText.TheVariants.{Chart, Order, Summary}
+use Rattle.rvm_replay.specs.declared.audit.Extent.{Extent}
+use Rattle.rvm_replay.specs.declared.audit.OrderText.{OrderText}
+use Rattle.rvm_replay.specs.declared.audit.OrderText.TheVariants.{Events, Chart as OrderChart}
 use Rattle.rvm_replay.specs.declared.audit.Finding.{Finding}
 use Rattle.rvm_replay.specs.declared.audit.Finding.TheVariants.{InOrder, Unordered as NotInOrder}
 use Rattle.rvm_replay.specs.declared.audit.Unordered.{Unordered}
@@ -52,12 +57,12 @@ pub record EndsAt (all : List Recording) (places : ℕ → ℕ) : Type 0 where
 
 -- the report that the journals of these hosts contradict one another: up to which places they have an order, and the refusal
 abbrev pub refuted_text : List JournalFile → List Recording → (places : ℕ → ℕ) → List ℕ
-refuted_text files all places = place_lines files places 0 all ++ (refused_text (refused NoOrder) ++ codes "\n")
+refuted_text files all places = place_lines files places 0 (map count_of all) ++ (refused_text (refused NoOrder) ++ codes "\n")
 
 -- the report that what was cut off may explain that there is no order beyond these places
 abbrev pub undecided_text : List JournalFile → List Recording → (places : ℕ → ℕ) → List ℕ
 undecided_text files all places =
-    place_lines files places 0 all ++ (codes "undecided: what was cut off may have sent the rest" ++ codes "\n")
+    place_lines files places 0 (map count_of all) ++ (codes "undecided: what was cut off may have sent the rest" ++ codes "\n")
 
 -- the journals of these hosts contradict one another, whatever was cut off, which was reported
 pub record AreRefuted (files : List JournalFile) (all : List Recording) (errors errors' : Option (List ℕ)) : Type 0 where
@@ -73,12 +78,32 @@ pub record AreUndecided (files : List JournalFile) (all : List Recording) (error
   pub explained : AreExplained (histories_in all) (cuts_of files (length all))
   pub told : Appends errors errors' (undecided_text files all places)
 
+-- how far the journals of these hosts have an order, which have none of all: up to these places; and how many events each has
+pub record IsExtent (all : List Recording) (extent : Extent) : Type 0 where
+  pub ends : EndsAt all (taken extent.places.items)
+  pub counts_are : extent.counts.items ≡ map count_of all
+
 -- why the journals of these hosts have no order
 abbrev pub IsUnordered : List JournalFile → List Recording → Unordered → Type 0
-IsUnordered files all (Contradicted places) =
-    EndsAt all (taken places.items) × AreContradicted (histories_in all) (cuts_of files (length all))
-IsUnordered files all (Undecided places) =
-    EndsAt all (taken places.items) × AreExplained (histories_in all) (cuts_of files (length all))
+IsUnordered files all (Contradicted extent) =
+    IsExtent all extent × AreContradicted (histories_in all) (cuts_of files (length all))
+IsUnordered files all (Undecided extent) =
+    IsExtent all extent × AreExplained (histories_in all) (cuts_of files (length all))
+
+-- how far journals have an order
+abbrev pub extent_of : Unordered → Extent
+extent_of (Contradicted extent) = extent
+extent_of (Undecided extent) = extent
+
+-- there are no more journals than hosts of a world, if they have no order
+abbrev pub HasFew : Finding → Type 0
+HasFew (InOrder order) = ⊤
+HasFew (NotInOrder why) = length (extent_of why).counts.items ≤ 8
+
+-- the journals of these hosts have an order, or this is why they have none
+abbrev pub IsWhyUnordered : List JournalFile → List Recording → Option Unordered → Type 0
+IsWhyUnordered files all None = (events : List Event) × IsOrder (journals_in all) events
+IsWhyUnordered files all (Some why) = IsUnordered files all why
 
 -- what was found of the journals of these hosts
 abbrev pub IsFinding : List JournalFile → List Recording → Finding → Type 0
@@ -136,10 +161,11 @@ IsFaultTold files journals.NoGuest errors errors' =
 IsFaultTold files (journals.File i fault) errors errors' =
     Appends errors errors' (fault_line (name_of (slice_get files i)) fault)
 
--- the journals are not audited for this reason, which was reported
-pub record AreNotAudited (files : List JournalFile) (image : List ℕ) (out out' errors errors' : Option (List ℕ)) : Type 0 where
+-- the journals are not audited for this reason, which was reported, where a host takes so many events
+pub record AreNotAudited (capacity : ℕ) (files : List JournalFile) (image : List ℕ) (out out' errors errors' : Option (List ℕ))
+    : Type 0 where
   pub fault : JournalsFault
-  pub reason : IsJournalsFault files image fault
+  pub reason : IsJournalsFault capacity files image fault
   pub told : IsFaultTold files fault errors errors'
   pub same : out' ≡ out
 
@@ -150,13 +176,24 @@ pub record AreOpen (files : List JournalFile) (image : List ℕ) (out out' error
   pub undecided : AreUndecided files all errors errors'
   pub same : out' ≡ out
 
+-- what is asked for of the order
+abbrev pub text_of : OrderText → AuditText
+text_of Events = Order
+text_of OrderChart = Chart
+
+-- how many events a host takes, by what is asked for: an order needs all that it answered
+abbrev pub capacity_of : AuditText → ℕ
+capacity_of Summary = most_replayed
+capacity_of Order = 4294967295
+capacity_of Chart = 4294967295
+
 -- what an audit of journals found, by its status, and what was written and reported
 abbrev pub HasAuditStatus : (status : ℕ) → List JournalFile → (image : List ℕ) → AuditText
     → (out out' errors errors' : Option (List ℕ)) → Type 0
 HasAuditStatus zero files image text out out' errors errors' =
     AreAudited files image text out out' × (errors' ≡ errors)
 HasAuditStatus (suc zero) files image text out out' errors errors' =
-    AreNotAudited files image out out' errors errors' ⊎ AreNotInOrder files image out out' errors errors'
+    AreNotAudited (capacity_of text) files image out out' errors errors' ⊎ AreNotInOrder files image out out' errors errors'
 HasAuditStatus (suc (suc (suc zero))) files image text out out' errors errors' =
     AreOpen files image out out' errors errors'
 HasAuditStatus status files image text out out' errors errors' = ⊥

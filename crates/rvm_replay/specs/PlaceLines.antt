@@ -2,7 +2,6 @@
 use Rattle.std.specs.Fmt.{decimal}
 use Rattle.std.specs.Prelude.{ℕ, ◌+◌, if◌then◌else◌, List, [], ◌∷◌, ◌++◌, codes}
 use Rattle.rvm_journal.specs.Headers.{header_at}
-use Rattle.rvm_recorder.specs.History.{Recording, count_of}
 use Rattle.rvm_replay.specs.Audited.{is_wanted}
 use Rattle.rvm_replay.specs.declared.file.JournalFile.{JournalFile}
 use Rattle.rvm_replay.specs.declared.headers.Wanted.TheVariants.{OfHost}
@@ -19,10 +18,10 @@ place_text place count name =
     codes ": " ++ decimal place ++ codes " of " ++ decimal count ++ codes " events in order (" ++ name ++ codes ")" ++ codes "\n"
 
 -- the line of the host with this number, by its letter
-abbrev pub place_line : List JournalFile → (host place : ℕ) → Recording → List ℕ
-place_line files x place r = (65 + x) ∷ place_text place (count_of r) (journal_name x files)
+abbrev pub place_line : List JournalFile → (host place count : ℕ) → List ℕ
+place_line files x place n = (65 + x) ∷ place_text place n (journal_name x files)
 
--- the lines of hosts, the first of which has this number
-abbrev pub place_lines : List JournalFile → (places : ℕ → ℕ) → (host : ℕ) → List Recording → List ℕ
+-- the lines of hosts, the first of which has this number, whose journals have these numbers of events
+abbrev pub place_lines : List JournalFile → (places : ℕ → ℕ) → (host : ℕ) → (counts : List ℕ) → List ℕ
 place_lines files places x [] = []
-place_lines files places x (r ∷ rs) = place_line files x (places x) r ++ place_lines files places (x + 1) rs
+place_lines files places x (n ∷ ns) = place_line files x (places x) n ++ place_lines files places (x + 1) ns

@@ -132,7 +132,7 @@ pub record HaveFewTurns (files : List JournalFile) (image : List ℕ) (turn : �
 abbrev pub IsNoTurn : (status : ℕ) → List JournalFile → (image : List ℕ) → (turn : ℕ)
     → (out out' errors errors' : Option (List ℕ)) → Type 0
 IsNoTurn (suc zero) files image turn out out' errors errors' =
-    AreNotAudited files image out out' errors errors'
+    AreNotAudited 4294967295 files image out out' errors errors'
     ⊎ (AreNotInOrder files image out out' errors errors'
     ⊎ (HaveFewTurns files image turn errors errors' × (out' ≡ out)))
 IsNoTurn (suc (suc (suc zero))) files image turn out out' errors errors' = AreOpen files image out out' errors errors'

@@ -72,16 +72,17 @@ IsHeadersFault files OutOfMemory = ⊥
 IsHeadersFault files NoGuest = IsOnlyOne files WithGuest None
 IsHeadersFault files (File i fault) = (i < length files) × IsHeaderFault files i fault
 
--- the journal with this index was refused for what its lines tell, or for its image
-pub record IsRefusedAt (files : List JournalFile) (image : List ℕ) (index : ℕ) (fault : FileFault) : Type 0 where
+-- the journal with this index was refused for what its lines tell, or for its image, where a host takes so many events
+pub record IsRefusedAt (capacity : ℕ) (files : List JournalFile) (image : List ℕ) (index : ℕ) (fault : FileFault) : Type 0 where
   pub header : Header
   pub file : JournalFile
   pub header_is : header_number files index ≡ Some header
   pub file_is : slice_get files index ≡ Some file
-  pub refused : IsFileFault fault None 4294967295 (Some header) file.bytes.items image
+  pub refused : IsFileFault fault None capacity (Some header) file.bytes.items image
 
--- why journals are not audited: their headers, one of them, or memory ran out
-abbrev pub IsJournalsFault : List JournalFile → (image : List ℕ) → JournalsFault → Type 0
-IsJournalsFault files image OutOfMemory = ⊤
-IsJournalsFault files image NoGuest = IsHeadersFault files NoGuest
-IsJournalsFault files image (File i fault) = IsHeadersFault files (File i fault) ⊎ IsRefusedAt files image i fault
+-- why journals are not audited, where a host takes so many events: their headers, one of them, or memory ran out
+abbrev pub IsJournalsFault : (capacity : ℕ) → List JournalFile → (image : List ℕ) → JournalsFault → Type 0
+IsJournalsFault capacity files image OutOfMemory = ⊤
+IsJournalsFault capacity files image NoGuest = IsHeadersFault files NoGuest
+IsJournalsFault capacity files image (File i fault) =
+    IsHeadersFault files (File i fault) ⊎ IsRefusedAt capacity files image i fault

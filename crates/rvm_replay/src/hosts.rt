@@ -1,6 +1,6 @@
 //! The host that does again what its journal tells.
 
-ghost use Rattle.std.specs.Prelude.{◌≡◌, ◌≢◌, ◌≤◌, ℕ, List, [], false, IfErr, IfOk, IfSome, None, OnOk, Option, Some, option_map, true};
+ghost use Rattle.std.specs.Prelude.{◌≡◌, ◌≢◌, ◌≤◌, ◌<◌, ℕ, List, [], false, IfErr, IfOk, IfSome, None, OnOk, Option, Some, option_map, true};
 ghost use Rattle.sha2.specs.Sha256.{sha256};
 ghost use Rattle.rvm_board.specs.Guest.{GuestState};
 ghost use Rattle.rvm_host.specs.Hosts.{is_sized, new_host};
@@ -110,7 +110,7 @@ pub(crate) fn record_journal<M: PagedMemory + Drop>(
 }
 
 /// The host with which the journal with this header begins, before it has done anything.
-fn opening_host<M: PagedMemory + Drop>(
+pub(crate) fn opening_host<M: PagedMemory + Drop>(
     alloc: Global,
     header: &Header,
     image: &[u8],
@@ -124,7 +124,7 @@ fn opening_host<M: PagedMemory + Drop>(
 }
 
 /// Has a host that has just begun do what its journal tells: its first `most` events, or all.
-fn replay_bytes<R: Recorder>(
+pub(crate) fn replay_bytes<R: Recorder>(
     alloc: Global,
     header: &Header,
     bytes: &[u8],
@@ -149,7 +149,7 @@ fn replay_bytes<R: Recorder>(
 }
 
 /// Makes a host that has done nothing, as a host process does. Fails if no world of so many hosts has such a host.
-pub(crate) fn open_host<M: PagedMemory + Drop>(
+fn open_host<M: PagedMemory + Drop>(
     guest: Option<Debugged<M>>,
     hosts: u8,
     host: u8,
@@ -160,6 +160,19 @@ pub(crate) fn open_host<M: PagedMemory + Drop>(
     match Host::with_version(guest, host, hosts, MAX_PAGES as u16, STREAM_VERSION) {
         Ok(host) => Ok(host),
         Err(_) => Err(FileFault::NoHeader),
+    }
+}
+
+/// Makes a host that has no journal, and has done nothing.
+#[tactic(auto, using(crate::proofs::JournalFaults::never))]
+pub(crate) fn idle_host<M: PagedMemory + Drop>(hosts: u8, host: u8) -> Host<M>
+    requires hosts { (2 ≤ hosts) × (hosts ≤ 8) }
+    requires host { host < hosts }
+    ensures { result ≡ new_host None host hosts 4096 3 }
+{
+    match open_host(None, hosts, host) {
+        Ok(host) => host,
+        Err(_) => unreachable!(),
     }
 }
 

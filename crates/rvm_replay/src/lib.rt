@@ -5,10 +5,11 @@
 //! `rvm_audit` for the order. It must not know files, sockets or workers.
 //!
 //! To be read in this order: `file`, `hosts`, `report`, `console_of_journal`, `replay_command`, `replay_session`;
-//! `headers`, `meetings`, `world`, `cuts`, `counts`, `summary`, `drawing`, `chart`, `places`, `progress`, `audit`;
+//! `headers`, `meetings`, `kept`, `world`, `cuts`, `counts`, `account`, `summary`, `drawing`, `chart`, `places`, `progress`, `audit`;
 //! `journal_turns`, `turns`, `turn_session`.
 #![tactic(auto)]
 
+mod account;
 pub mod audit;
 mod chart;
 mod console_of_journal;
@@ -19,6 +20,7 @@ pub mod file;
 mod headers;
 mod hosts;
 mod journal_turns;
+mod kept;
 mod meetings;
 mod places;
 mod progress;

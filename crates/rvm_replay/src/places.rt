@@ -12,25 +12,23 @@ use crate::file::JournalFile;
 use crate::headers::{Wanted, is_wanted};
 use rvm_audit::Place;
 use rvm_journal::read_header;
-use rvm_mem::PagedMemory;
-use rvm_recorder::Recorded;
 use rvm_refusal::LinkFault;
 use std::io::Write;
 
-/// Reports for each host how many events of its journal are in order.
-pub(crate) fn write_places<M: PagedMemory + Drop, E: Write>(
+/// Reports for each host how many events of its journal are in order, of those that it has.
+pub(crate) fn write_places<E: Write>(
     files: &[JournalFile<'_>],
-    all: &[Recorded<M>],
     places: &[Place],
+    counts: &[u64],
     errors: &mut E,
 ) -> Result<(), LinkFault>
-    requires { length all.now ≤ 8 }
+    requires { length counts.now ≤ 8 }
     ensures { OnOk result (Appends (E.contents errors.old) (E.contents errors.new)
-        (place_lines files.now (taken places.now) 0 all.now)) }
+        (place_lines files.now (taken places.now) 0 counts.now)) }
 {
-    for host in 0..all.len() {
+    for host in 0..counts.len() {
         let place = taken(places, host);
-        write_place(files, host as u8, place, &all[host], errors)?;
+        write_place(files, host as u8, place, counts[host], errors)?;
     }
     Ok(())
 }
@@ -45,19 +43,18 @@ fn taken(places: &[Place], host: usize) -> usize
     }
 }
 
-/// Reports how many events of the journal of a host are in order.
-fn write_place<M: PagedMemory + Drop, E: Write>(
+/// Reports how many events of the journal of a host are in order, of these.
+fn write_place<E: Write>(
     files: &[JournalFile<'_>],
     host: u8,
     place: usize,
-    recorded: &Recorded<M>,
+    count: u64,
     errors: &mut E,
 ) -> Result<(), LinkFault>
     requires { host ≤ 8 }
     ensures { OnOk result (Appends (E.contents errors.old) (E.contents errors.new)
-        (place_line files.now host place recorded.now)) }
+        (place_line files.now host place count)) }
 {
-    let count = recorded.count();
     let name = journal_name(files, host);
     let letter = [b'A' + host];
     errors.write_all(&letter)?;
@@ -67,7 +64,7 @@ fn write_place<M: PagedMemory + Drop, E: Write>(
 /// Writes how many events of the journal in a file are in order, and that it has `count`.
 fn write_text<E: Write>(
     place: usize,
-    count: u32,
+    count: u64,
     name: &str,
     errors: &mut E,
 ) -> Result<(), LinkFault>

@@ -4,15 +4,15 @@ ghost use Rattle.std.specs.Prelude.{◌≡◌, ◌≤◌, IfOk, OnOk, codes, len
 ghost use Rattle.std.specs.Io.KnownBytes.{Appends};
 ghost use Rattle.rvm_replay.specs.Counts.{counts_line, counts_of, entries_of_all, events_text, host_line, host_lines, moves_text, summary_of};
 
+use crate::account::Account;
 use crate::counts::Counts;
 use rvm_mem::PagedMemory;
-use rvm_recorder::Recorded;
 use rvm_refusal::LinkFault;
 use std::io::Write;
 
 /// Writes a line for each host, with what its journal adds up to, and one for all of them.
 pub(crate) fn write_summary<M: PagedMemory + Drop, O: Write>(
-    all: &[Recorded<M>],
+    all: &[Account<M>],
     output: &mut O,
 ) -> Result<(), LinkFault>
     requires { length all.now ≤ 8 }
@@ -25,7 +25,7 @@ pub(crate) fn write_summary<M: PagedMemory + Drop, O: Write>(
 
 /// Writes a line for each host. Returns what the journals of all add up to.
 fn write_hosts<M: PagedMemory + Drop, O: Write>(
-    all: &[Recorded<M>],
+    all: &[Account<M>],
     output: &mut O,
 ) -> Result<Counts, LinkFault>
     requires { length all.now ≤ 8 }
@@ -43,14 +43,14 @@ fn write_hosts<M: PagedMemory + Drop, O: Write>(
 /// Writes the line of a host, and returns what its journal adds up to.
 fn write_host<M: PagedMemory + Drop, O: Write>(
     host: u8,
-    recorded: &Recorded<M>,
+    account: &Account<M>,
     output: &mut O,
 ) -> Result<Counts, LinkFault>
     requires { host ≤ 8 }
-    ensures written { OnOk result (Appends (O.contents output.old) (O.contents output.new) (host_line host recorded.now)) }
-    ensures counts { IfOk result (λ counts. counts ≡ counts_of recorded.now.journal.entries) }
+    ensures written { OnOk result (Appends (O.contents output.old) (O.contents output.new) (host_line host account.now)) }
+    ensures counts { IfOk result (λ counts. counts ≡ counts_of account.now.journal.entries) }
 {
-    let counts = Counts::of(recorded.journal().items());
+    let counts = account.counts();
     let letter = [b'A' + host];
     write_counts(&letter, counts, output)?;
     Ok(counts)

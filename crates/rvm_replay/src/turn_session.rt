@@ -50,7 +50,7 @@ pub fn replay_turns<M: PagedMemory + Drop, R: Read, O: Write + Drop, P: Write, E
     ensures untold { OnErr result (IsUntoldTurn files.now image.now turn (R.remaining reader.old)
         (writer_contents O.contents output.old) (writer_contents O.contents output.new)) }
 {
-    match replay_all::<M, P>(alloc, files, image, progress) {
+    match replay_all::<Recorded<M>, P>(alloc, files, image, progress) {
         Ok(all) => {
             show_search(progress);
             let looked = look_for(alloc, files, all.as_slice(), turn, errors);
@@ -89,7 +89,7 @@ fn look_for<M: PagedMemory + Drop, E: Write>(
     match find(alloc, files, all) {
         Ok(Finding::InOrder(order)) => look_in(files, all, &order, turn, errors),
         Ok(Finding::Unordered(why)) => {
-            let status = tell_unordered(files, all, why, errors)?;
+            let status = tell_unordered(files, why, errors)?;
             Ok(Err(status))
         }
         Err(_) => {

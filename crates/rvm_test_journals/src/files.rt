@@ -54,6 +54,8 @@ enum Case {
     Twice,
     /// To host C comes a frame that nobody sent.
     Unsent,
+    /// The same, and the order is asked for that the journals do not have.
+    UnsentOrder,
     /// The journal of host C has no end, and not the line before it.
     Cut,
     /// The journal of host C has no line.
@@ -83,6 +85,7 @@ pub fn audit_files<R: AllocGlobal + Print>(rt: &R) -> Option<()> {
     audit(rt, "the number of the world at each host", Case::SameWorld)?;
     audit(rt, "without the last two lines of host C", Case::Cut)?;
     audit(rt, "a frame that nobody sent", Case::Unsent)?;
+    audit(rt, "the order of the same", Case::UnsentOrder)?;
     audit(rt, "without host B", Case::Without(1))?;
     audit(rt, "without host A", Case::Without(0))?;
     audit(rt, "host B twice", Case::Twice)?;
@@ -178,7 +181,7 @@ fn act(
     move_guest(alloc, a, b, 1)?;
     move_guest(alloc, b, c, 2)?;
     step(alloc, c, 50)?;
-    if matches!(case, Case::Unsent) {
+    if matches!(case, Case::Unsent | Case::UnsentOrder) {
         let frame = came(alloc, 0, Frame::Go { move_number: 9 })?;
         drop(made(c, alloc, frame)?);
     }
@@ -383,7 +386,7 @@ fn status_of(
     errors: &mut Vec<u8>,
 ) -> Option<u8> {
     let text = match case {
-        Case::Order => AuditText::Order,
+        Case::Order | Case::UnsentOrder => AuditText::Order,
         _ => AuditText::Summary,
     };
     let image = image_of(case);

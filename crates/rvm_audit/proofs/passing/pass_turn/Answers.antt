@@ -32,12 +32,12 @@ overflow_add-place c =
     let items = c.index-parts-host.result.items.now in
     let there = c.in-Some.ensures.lookup in
     let next =
-    next_item_is c.index-parts-host.result c.index-place.result.now c.in-Some.item.now c.look.result
-    (slice_get_read items (length items) c.index-place.result.now.items c.in-Some.item.now refl there.3.0 there.1) c.look.ensures
+    next_item_is c.index-parts-host.result c.index-place.result.now c.in-Some.stretch.now c.look.result
+    (slice_get_read items (length items) c.index-place.result.now.items c.in-Some.stretch.now refl there.3.0 there.1) c.look.ensures
     in
     let less =
-    some_items_left c.args.parts.now c.args.cuts.now c.args.places.now.items c.args.known.now c.pass_item.new.self c.args.host
-    c.index-parts-host.result c.index-place.result.now t c.look.result next c.in_ok-pass_item.field-0 c.in_ok-pass_item.ensures
+    some_items_left c.args.parts.now c.args.cuts.now c.args.places.now.items c.args.known.now c.pass_stretch.new.self c.args.host
+    c.index-parts-host.result c.index-place.result.now t c.look.result next c.in_ok-pass_stretch.field-0 c.in_ok-pass_stretch.ensures
     c.in-Some-2.passed c.in-Some-2.is
     in
     let sized = c.requires.sized c.args.host c.index-parts-host.result t.here in
@@ -53,12 +53,12 @@ overflow_add-place-in-Some-2 c =
     let items = c.index-parts-host.result.items.now in
     let there = c.in-Some.ensures.lookup in
     let next =
-    next_item_is c.index-parts-host.result c.index-place.result.now c.in-Some.item.now c.look.result
-    (slice_get_read items (length items) c.index-place.result.now.items c.in-Some.item.now refl there.3.0 there.1) c.look.ensures
+    next_item_is c.index-parts-host.result c.index-place.result.now c.in-Some.stretch.now c.look.result
+    (slice_get_read items (length items) c.index-place.result.now.items c.in-Some.stretch.now refl there.3.0 there.1) c.look.ensures
     in
     let less =
-    some_entries_within c.args.parts.now c.args.cuts.now c.args.places.now.items c.args.known.now c.pass_item.new.self c.args.host
-    c.index-parts-host.result c.index-place.result.now t c.look.result next c.in_ok-pass_item.field-0 c.in_ok-pass_item.ensures
+    some_entries_within c.args.parts.now c.args.cuts.now c.args.places.now.items c.args.known.now c.pass_stretch.new.self c.args.host
+    c.index-parts-host.result c.index-place.result.now t c.look.result next c.in_ok-pass_stretch.field-0 c.in_ok-pass_stretch.ensures
     c.in-Some-2.passed c.in-Some-2.is
     in
     let sized = c.requires.sized c.args.host c.index-parts-host.result t.here in
@@ -74,11 +74,11 @@ returns-in-None-clause-passing c =
     let items = c.index-parts-host.result.items.now in
     let there = c.in-Some.ensures.lookup in
     let next =
-    next_item_is c.index-parts-host.result c.index-place.result.now c.in-Some.item.now c.look.result
-    (slice_get_read items (length items) c.index-place.result.now.items c.in-Some.item.now refl there.3.0 there.1) c.look.ensures
+    next_item_is c.index-parts-host.result c.index-place.result.now c.in-Some.stretch.now c.look.result
+    (slice_get_read items (length items) c.index-place.result.now.items c.in-Some.stretch.now refl there.3.0 there.1) c.look.ensures
     in
-    none_passing c.args.parts.now c.args.cuts.now c.args.places.now.items c.args.known.now c.pass_item.new.self c.args.host
-    c.index-parts-host.result c.index-place.result.now t c.look.result next c.in_ok-pass_item.field-0 c.in_ok-pass_item.ensures
+    none_passing c.args.parts.now c.args.cuts.now c.args.places.now.items c.args.known.now c.pass_stretch.new.self c.args.host
+    c.index-parts-host.result c.index-place.result.now t c.look.result next c.in_ok-pass_stretch.field-0 c.in_ok-pass_stretch.ensures
     c.in-None.is
 
 pub returns-in-None-clause-blocked : goal.returns-in-None-clause-blocked
@@ -90,11 +90,11 @@ returns-in-None-clause-blocked c =
     let items = c.index-parts-host.result.items.now in
     let there = c.in-Some.ensures.lookup in
     let next =
-    next_item_is c.index-parts-host.result c.index-place.result.now c.in-Some.item.now c.look.result
-    (slice_get_read items (length items) c.index-place.result.now.items c.in-Some.item.now refl there.3.0 there.1) c.look.ensures
+    next_item_is c.index-parts-host.result c.index-place.result.now c.in-Some.stretch.now c.look.result
+    (slice_get_read items (length items) c.index-place.result.now.items c.in-Some.stretch.now refl there.3.0 there.1) c.look.ensures
     in
-    none_blocked c.args.parts.now c.args.cuts.now c.args.places.now.items c.args.known.now c.pass_item.new.self c.args.host
-    c.index-parts-host.result c.index-place.result.now t c.look.result next c.in_ok-pass_item.field-0 c.in_ok-pass_item.ensures
+    none_blocked c.args.parts.now c.args.cuts.now c.args.places.now.items c.args.known.now c.pass_stretch.new.self c.args.host
+    c.index-parts-host.result c.index-place.result.now t c.look.result next c.in_ok-pass_stretch.field-0 c.in_ok-pass_stretch.ensures
     c.in-None.is
 
 pub returns-in-Some-2-clause-passing : goal.returns-in-Some-2-clause-passing
@@ -106,11 +106,11 @@ returns-in-Some-2-clause-passing c =
     let items = c.index-parts-host.result.items.now in
     let there = c.in-Some.ensures.lookup in
     let next =
-    next_item_is c.index-parts-host.result c.index-place.result.now c.in-Some.item.now c.look.result
-    (slice_get_read items (length items) c.index-place.result.now.items c.in-Some.item.now refl there.3.0 there.1) c.look.ensures
+    next_item_is c.index-parts-host.result c.index-place.result.now c.in-Some.stretch.now c.look.result
+    (slice_get_read items (length items) c.index-place.result.now.items c.in-Some.stretch.now refl there.3.0 there.1) c.look.ensures
     in
-    some_passing c.args.parts.now c.args.cuts.now c.args.places.now.items c.args.known.now c.pass_item.new.self c.args.host
-    c.index-parts-host.result c.index-place.result.now t c.look.result next c.in_ok-pass_item.field-0 c.in_ok-pass_item.ensures
+    some_passing c.args.parts.now c.args.cuts.now c.args.places.now.items c.args.known.now c.pass_stretch.new.self c.args.host
+    c.index-parts-host.result c.index-place.result.now t c.look.result next c.in_ok-pass_stretch.field-0 c.in_ok-pass_stretch.ensures
     c.in-Some-2.passed c.in-Some-2.is
 
 pub returns-in-Some-2-clause-blocked : goal.returns-in-Some-2-clause-blocked
@@ -122,9 +122,9 @@ returns-in-Some-2-clause-blocked c =
     let items = c.index-parts-host.result.items.now in
     let there = c.in-Some.ensures.lookup in
     let next =
-    next_item_is c.index-parts-host.result c.index-place.result.now c.in-Some.item.now c.look.result
-    (slice_get_read items (length items) c.index-place.result.now.items c.in-Some.item.now refl there.3.0 there.1) c.look.ensures
+    next_item_is c.index-parts-host.result c.index-place.result.now c.in-Some.stretch.now c.look.result
+    (slice_get_read items (length items) c.index-place.result.now.items c.in-Some.stretch.now refl there.3.0 there.1) c.look.ensures
     in
-    some_blocked c.args.parts.now c.args.cuts.now c.args.places.now.items c.args.known.now c.pass_item.new.self c.args.host
-    c.index-parts-host.result c.index-place.result.now t c.look.result next c.in_ok-pass_item.field-0 c.in_ok-pass_item.ensures
+    some_blocked c.args.parts.now c.args.cuts.now c.args.places.now.items c.args.known.now c.pass_stretch.new.self c.args.host
+    c.index-parts-host.result c.index-place.result.now t c.look.result next c.in_ok-pass_stretch.field-0 c.in_ok-pass_stretch.ensures
     c.in-Some-2.passed c.in-Some-2.is c.woken.result c.woken.ensures

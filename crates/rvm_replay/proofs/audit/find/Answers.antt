@@ -21,20 +21,22 @@ are_contradictory-requires g c = record {
       ∙ same_count c.args.all.now c.in_ok-journals.journals.items c.in_ok-journals.ensures);
 }
 
-pub returns-in-true : goal.returns-in-true
-returns-in-true g c =
+pub returns-in-true-clause-found : goal.returns-in-true-clause-found
+returns-in-true-clause-found g c =
     contradicted_if c.args.files.now c.args.all.now c.in_ok-journals.journals.items c.as_slice.result.now
-    c.as_slice-in-NoOrder.result.now c.in-NoOrder.places c.in_ok-cuts-in-NoOrder.cuts.items c.as_slice-in-NoOrder-2.result.now
+    c.as_slice-in-NoOrder.result.now (record { places = c.in-NoOrder.places; counts = c.in_ok-counts_of-in-NoOrder.field-0 })
+    c.in_ok-cuts-in-NoOrder.cuts.items c.as_slice-in-NoOrder-2.result.now
     c.in_ok-journals.ensures c.as_slice.ensures.value c.as_slice-in-NoOrder.ensures.value
-    (subst (IsAudit (journals_of (histories_of c.as_slice.result.now))) c.in-NoOrder.is c.in_ok-order.ensures)
+    (subst (IsAudit (journals_of (histories_of c.as_slice.result.now))) c.in-NoOrder.is c.in_ok-order.ensures) c.in_ok-counts_of-in-NoOrder.ensures
     c.in_ok-cuts-in-NoOrder.ensures c.as_slice-in-NoOrder-2.ensures.value c.in_ok-are_contradictory-in-NoOrder.field-0
     c.in_ok-are_contradictory-in-NoOrder.ensures.found c.in-true.is
 
-pub returns : goal.returns
-returns g c =
+pub returns-clause-found : goal.returns-clause-found
+returns-clause-found g c =
     explained_if c.args.files.now c.args.all.now c.in_ok-journals.journals.items c.as_slice.result.now
-    c.as_slice-in-NoOrder.result.now c.in-NoOrder.places c.in_ok-cuts-in-NoOrder.cuts.items c.as_slice-in-NoOrder-2.result.now
+    c.as_slice-in-NoOrder.result.now (record { places = c.in-NoOrder.places; counts = c.in_ok-counts_of-in-NoOrder.field-0 })
+    c.in_ok-cuts-in-NoOrder.cuts.items c.as_slice-in-NoOrder-2.result.now
     c.in_ok-journals.ensures c.as_slice.ensures.value c.as_slice-in-NoOrder.ensures.value
-    (subst (IsAudit (journals_of (histories_of c.as_slice.result.now))) c.in-NoOrder.is c.in_ok-order.ensures)
+    (subst (IsAudit (journals_of (histories_of c.as_slice.result.now))) c.in-NoOrder.is c.in_ok-order.ensures) c.in_ok-counts_of-in-NoOrder.ensures
     c.in_ok-cuts-in-NoOrder.ensures c.as_slice-in-NoOrder-2.ensures.value c.in_ok-are_contradictory-in-NoOrder.field-0
     c.in_ok-are_contradictory-in-NoOrder.ensures.none c.in-false.is

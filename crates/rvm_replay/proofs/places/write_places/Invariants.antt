@@ -8,4 +8,4 @@ use Rattle.rvm_replay.proofs.places.write_places.Given as goal
 abbrev pub invariant-loop-host : goal.invariant-loop-host
 invariant-loop-host g l =
     Appends (g.E.Write.contents l.fn.errors) (g.E.Write.contents l.errors)
-    (place_lines l.files (taken l.places) 0 (take l.host l.all))
+    (place_lines l.files (taken l.places) 0 (take l.host l.counts))

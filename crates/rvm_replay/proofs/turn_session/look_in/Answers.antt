@@ -36,7 +36,7 @@ returns-in_ok-tell_fault-in-Err-Fault-clause-looked g c image are out =
     let fault = subst (IsUnplaced c.args.files.now c.args.order.now c.args.turn) c.in-Err-Fault.field-0-is
     c.in-Err-Fault.ensures.unplaced in
     not_audited c.args.files.now image c.args.turn c.in-Err-Fault.fault
-    (of_headers c.args.files.now image c.in-Err-Fault.fault fault) out
+    (of_headers 4294967295 c.args.files.now image c.in-Err-Fault.fault fault) out
     (g.E.Write.contents c.args.errors.now) (g.E.Write.contents c.tell_fault.new.errors)
     c.in_ok-tell_fault-in-Err-Fault.ensures
 
@@ -46,4 +46,4 @@ returns-in_err-tell_fault-in-Err-Fault-clause-untold g c image are =
     c.in-Err-Fault.ensures.unplaced in
     on_error c.from_residual-in_err-tell_fault-in-Err-Fault.result _
     (not_audited_untold c.args.files.now image c.args.turn c.in-Err-Fault.fault
-    (of_headers c.args.files.now image c.in-Err-Fault.fault fault))
+    (of_headers 4294967295 c.args.files.now image c.in-Err-Fault.fault fault))

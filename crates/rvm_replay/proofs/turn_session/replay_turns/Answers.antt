@@ -4,6 +4,7 @@ use Rattle.std.specs.Prelude.{IfOk}
 use Rattle.rvm_replay.specs.Audited.{AreReplayed}
 use Rattle.rvm_replay.specs.Turns.{IsLooked, IsNoTurn, IsTurnSession}
 use Rattle.rvm_replay.specs.declared.turns.TurnPlace.{TurnPlace}
+use Rattle.rvm_replay.proofs.AllHosts.{replayed}
 use Rattle.rvm_replay.proofs.TurnEnds.{not_audited_untold, with_session, with_session_untold, without_session}
 use Rattle.rvm_replay.proofs.UntoldReplays.{on_error}
 use Rattle.rvm_replay.proofs.turn_session.replay_turns.Goals as goal
@@ -12,7 +13,7 @@ pub returns-in_err-place-in-Ok-clause-untold : goal.returns-in_err-place-in-Ok-c
 returns-in_err-place-in-Ok-clause-untold g c =
     let files = c.args.files.now in
     let image = c.args.image.now in
-    let are = subst (AreReplayed files image) (sym c.as_slice.ensures.value) c.in-Ok.ensures.done in
+    let are = subst (AreReplayed files image) (sym c.as_slice.ensures.value) (replayed files image c.in-Ok.all.items c.in-Ok.ensures.world c.in-Ok.ensures.each) in
     on_error c.from_residual.result _
     (without_session files image c.args.turn (g.R.Read.remaining c.args.reader.now)
     (writer_contents g.O.Write.contents c.args.output.now) (c.in_err-place-in-Ok.ensures.untold image are))
@@ -37,7 +38,7 @@ returns-in-Ok-2-clause-status g c =
     let errors = g.E.Write.contents c.args.errors.now in
     let mid = g.E.Write.contents c.look_for-looked.new.errors in
     let errors' = g.E.Write.contents c.answer_at.new.errors in
-    let are = subst (AreReplayed files image) (sym c.as_slice.ensures.value) c.in-Ok.ensures.done in
+    let are = subst (AreReplayed files image) (sym c.as_slice.ensures.value) (replayed files image c.in-Ok.all.items c.in-Ok.ensures.world c.in-Ok.ensures.each) in
     let looked = subst (λ (r : Result TurnPlace ℕ). IsLooked files image turn r errors mid) c.in-Ok-2.is
     (c.in_ok-place-in-Ok.ensures.looked image are) in
     with_session files image turn session out out' c.answer_at.result errors errors'
@@ -51,7 +52,7 @@ returns-in-Ok-2-clause-untold g c =
     let turn = c.args.turn in
     let errors = g.E.Write.contents c.args.errors.now in
     let mid = g.E.Write.contents c.look_for-looked.new.errors in
-    let are = subst (AreReplayed files image) (sym c.as_slice.ensures.value) c.in-Ok.ensures.done in
+    let are = subst (AreReplayed files image) (sym c.as_slice.ensures.value) (replayed files image c.in-Ok.all.items c.in-Ok.ensures.world c.in-Ok.ensures.each) in
     let looked = subst (λ (r : Result TurnPlace ℕ). IsLooked files image turn r errors mid) c.in-Ok-2.is
     (c.in_ok-place-in-Ok.ensures.looked image are) in
     with_session_untold files image turn (g.R.Read.remaining c.args.reader.now)
@@ -64,7 +65,7 @@ returns-in-Err-2-clause-status g c =
     let image = c.args.image.now in
     let errors = g.E.Write.contents c.args.errors.now in
     let mid = g.E.Write.contents c.look_for-looked.new.errors in
-    let are = subst (AreReplayed files image) (sym c.as_slice.ensures.value) c.in-Ok.ensures.done in
+    let are = subst (AreReplayed files image) (sym c.as_slice.ensures.value) (replayed files image c.in-Ok.all.items c.in-Ok.ensures.world c.in-Ok.ensures.each) in
     let looked = subst (λ (r : Result TurnPlace ℕ). IsLooked files image c.args.turn r errors mid) c.in-Err-2.is
     (c.in_ok-place-in-Ok.ensures.looked image are) in
     inr (looked (writer_contents g.O.Write.contents c.args.output.now))
@@ -76,7 +77,16 @@ returns-in-Err-2-clause-out g c zero =
     let out = writer_contents g.O.Write.contents c.args.output.now in
     let errors = g.E.Write.contents c.args.errors.now in
     let mid = g.E.Write.contents c.look_for-looked.new.errors in
-    let are = subst (AreReplayed files image) (sym c.as_slice.ensures.value) c.in-Ok.ensures.done in
+    let are = subst (AreReplayed files image) (sym c.as_slice.ensures.value) (replayed files image c.in-Ok.all.items c.in-Ok.ensures.world c.in-Ok.ensures.each) in
     let looked = subst (λ (r : Result TurnPlace ℕ). IsLooked files image c.args.turn r errors mid) c.in-Err-2.is
     (c.in_ok-place-in-Ok.ensures.looked image are) in
     absurd (subst (λ n. IsNoTurn n files image c.args.turn out out errors mid) zero (looked out))
+
+pub look_for-looked-requires-clause-replayed : goal.look_for-looked-requires-clause-replayed
+look_for-looked-requires-clause-replayed g c =
+    let files = c.args.files.now in
+    let image = c.args.image.now in (
+      image,
+      subst (AreReplayed files image) (sym c.as_slice.ensures.value)
+          (replayed files image c.in-Ok.all.items c.in-Ok.ensures.world c.in-Ok.ensures.each),
+    )

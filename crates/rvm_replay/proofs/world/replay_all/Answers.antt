@@ -1,8 +1,12 @@
-use Rattle.rvm_replay.proofs.AllHosts.{replayed}
+use Rattle.std.proofs.Common.{subst, sym}
+use Rattle.rvm_replay.specs.Audited.{AreOfWorld, HasDone}
 use Rattle.rvm_replay.proofs.world.replay_all.Goals as goal
 
-pub returns-in-Ok-clause-done : goal.returns-in-Ok-clause-done
-returns-in-Ok-clause-done g c =
-    let made = c.in-Ok.ensures in
-    replayed c.args.files.now c.args.image.now c.in_ok-hosts.hosts c.replay_each.new.all.items c.in_ok-hosts.ensures.world
-    made.each made.long
+pub returns-in-Ok-clause-world : goal.returns-in-Ok-clause-world
+returns-in-Ok-clause-world g c =
+    subst (AreOfWorld c.args.files.now) (sym c.in-Ok.ensures.long) c.in_ok-hosts.ensures.world
+
+pub returns-in-Ok-clause-each : goal.returns-in-Ok-clause-each
+returns-in-Ok-clause-each g c x kept at =
+    subst (λ n. HasDone c.args.files.now c.args.image.now n x (g.K.Kept.recording kept)) (sym c.in-Ok.ensures.long)
+    (c.in-Ok.ensures.each x kept at)
