@@ -86,7 +86,7 @@ fault_text (TooLong most) = codes "more than " ++ decimal most ++ codes " events
 fault_text (BadLine number) = codes "line " ++ decimal number ++ codes ": no line of this journal"
 
 -- why not all events that are wanted of a journal were done: the first line that tells nothing, or too little room in a
--- recorder that takes so many entries
+-- recorder that takes `capacity` entries at most
 abbrev pub IsJournalFault : JournalFault → (most : Option ℕ) → (hosts host : ℕ) → (ls : List (List ℕ)) → (capacity room : ℕ)
     → Type 0
 IsJournalFault (BadLine number) most n h ls capacity room = IsFirstBad most n h ls number

@@ -69,7 +69,7 @@ module _ (o : PlainHost) (xs : List PlainEntry) (k : PlainHost) (leads : LeadsTo
 pub leads_nowhere : (o : PlainHost) → LeadsTo o [] o
 leads_nowhere o = record { numbers = refl; there = refl }
 
--- a host without entries is behind itself
+-- a host that has done nothing has an empty past
 pub behind_none : (o : PlainHost) (r : Recording) → r.journal.opening ≡ o → r.journal.entries ≡ [] → r.capacity ≡ 4294967295
     → IsBehind o [] 0 r
 behind_none o r is none few = record {
@@ -108,7 +108,7 @@ behind_still o past count r empty = record {
   capacity = refl;
 }
 
--- events are recorded behind the past
+-- events are recorded after the past
 pub behind_recorded : (o : PlainHost) (past : List PlainEntry) (count : ℕ) (mid new : Recording) (es : List HostEvent)
     → IsBehind o past count mid → mid.journal.entries ≡ [] → Records mid es new → count + length es ≤ most_replayed
     → IsBehind o past count new

@@ -28,7 +28,7 @@ replayed_of o past r = record {
   capacity = most_replayed;
 }
 
--- the entries of the past, of which there are so many, lead to the host with which the journal begins
+-- the `count` entries of the past lead to the host with which the journal begins
 pub record IsBehind (opening : PlainHost) (past : List PlainEntry) (count : ℕ) (r : Recording) : Type 0 where
   pub leads : LeadsTo opening past r.journal.opening
   pub replay : IsReplay opening past

@@ -44,8 +44,8 @@ IsGuestFault OtherImage guest file = IsWrongImage guest file
 IsGuestFault (BadImage why) guest file = IsBadImage why guest file
 IsGuestFault (BadJournal why) guest file = ⊥
 
--- this is wrong with a journal of these bytes, which has this header, or none, and with the file of its image, where its
--- host takes so many events. What is wrong with it beside other journals is wrong with none alone
+-- this is wrong with a journal of these bytes, which has this header, or none, and with the file of its image; its
+-- host takes `capacity` events at most. What is wrong with it beside other journals is wrong with none alone
 abbrev pub IsFileFault : FileFault → (most : Option ℕ) → (capacity : ℕ) → (header : Option Header) → (bytes image : List ℕ)
     → Type 0
 IsFileFault NoHeader most capacity header bytes image = header ≡ None

@@ -161,7 +161,7 @@ IsFaultTold files journals.NoGuest errors errors' =
 IsFaultTold files (journals.File i fault) errors errors' =
     Appends errors errors' (fault_line (name_of (slice_get files i)) fault)
 
--- the journals are not audited for this reason, which was reported, where a host takes so many events
+-- the journals are not audited for this reason, which was reported; a host takes `capacity` events at most
 pub record AreNotAudited (capacity : ℕ) (files : List JournalFile) (image : List ℕ) (out out' errors errors' : Option (List ℕ))
     : Type 0 where
   pub fault : JournalsFault

@@ -28,7 +28,7 @@ pub record IsReplay (most : Option ℕ) (journal image : List ℕ) (r : Recordin
   pub header_is : header_at journal ≡ Some header
   pub host : IsHostAfter most header journal image r
 
--- so it is where this guest is at the host then, or none, the host did so many events, and an observer was shown what it
+-- so it is where this guest is at the host then, or none, the host did `count` events, and an observer was shown what it
 -- answered
 pub record IsDone {O : Type 0} (shows : O → List PlainEntry → Type 0) (most : Option ℕ) (journal image : List ℕ)
     (guest : Option Guest) (count : ℕ) (observer : O) : Type 0 where
@@ -48,7 +48,7 @@ pub record IsRefused (name : List ℕ) (most : Option ℕ) (journal image : List
 abbrev pub replayed_line : (count : ℕ) → List ℕ
 replayed_line n = codes "replayed " ++ decimal n ++ codes " events" ++ codes "\n"
 
--- these bytes were written, and that there were so many events was reported
+-- these bytes were written, and it was reported how many events there were
 pub record IsShown (bytes : List ℕ) (count : ℕ) (before after errors_before errors_after : Option (List ℕ)) : Type 0 where
   pub shown : Appends before after bytes
   pub counted : Appends errors_before errors_after (replayed_line count)

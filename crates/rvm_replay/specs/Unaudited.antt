@@ -72,7 +72,7 @@ IsHeadersFault files OutOfMemory = ⊥
 IsHeadersFault files NoGuest = IsOnlyOne files WithGuest None
 IsHeadersFault files (File i fault) = (i < length files) × IsHeaderFault files i fault
 
--- the journal with this index was refused for what its lines tell, or for its image, where a host takes so many events
+-- the journal with this index was refused for what its lines tell, or for its image; a host takes `capacity` events at most
 pub record IsRefusedAt (capacity : ℕ) (files : List JournalFile) (image : List ℕ) (index : ℕ) (fault : FileFault) : Type 0 where
   pub header : Header
   pub file : JournalFile
@@ -80,7 +80,7 @@ pub record IsRefusedAt (capacity : ℕ) (files : List JournalFile) (image : List
   pub file_is : slice_get files index ≡ Some file
   pub refused : IsFileFault fault None capacity (Some header) file.bytes.items image
 
--- why journals are not audited, where a host takes so many events: their headers, one of them, or memory ran out
+-- why journals are not audited: their headers, one of them, or memory ran out; a host takes `capacity` events at most
 abbrev pub IsJournalsFault : (capacity : ℕ) → List JournalFile → (image : List ℕ) → JournalsFault → Type 0
 IsJournalsFault capacity files image OutOfMemory = ⊤
 IsJournalsFault capacity files image NoGuest = IsHeadersFault files NoGuest

@@ -52,7 +52,7 @@ pub fn replay_command<M: PagedMemory + Drop, O: Write, E: Write>(
     }
 }
 
-/// Writes what a guest sent, and reports that its host did so many events, or that a write failed. Returns the status.
+/// Writes what a guest sent, and reports how many events its host did, or that a write failed. Returns the status.
 fn show<O: Write, E: Write>(
     console: &Console,
     count: u64,
