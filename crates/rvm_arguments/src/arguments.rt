@@ -281,7 +281,7 @@ pub struct ReplayArguments<'a> {
     /// The file of the image of the guest with which the host began, if it began with one.
     pub image: Option<&'a str>,
     /// The most events that the host does again, if there is a limit.
-    pub until: Option<u32>,
+    pub until: Option<u64>,
     /// The file of an extended session of the debugger, which then has the guest, if there is one; `-` is standard input.
     pub script: Option<&'a str>,
 }

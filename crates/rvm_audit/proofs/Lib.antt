@@ -11,6 +11,7 @@ pub mod Guests
 pub mod Examples
 mod ExamplesOfCuts
 pub mod Spellings
+pub mod Pasts
 pub mod Stretched
 pub mod Commands
 pub mod Merges

@@ -5,6 +5,7 @@ pub mod Rule
 pub mod ListOrders
 pub mod PairRuns
 pub mod Placed
+pub mod Past
 pub mod Quiet
 pub mod Stretches
 pub mod Merging

@@ -8,7 +8,7 @@
 //! Hosts, Orders, Worlds and Cuts.
 //!
 //! To be read in this order: `laws`; `error`, `places`, `frames`, `placed`, `part`, `merge`, `merging`, `order`, `list`,
-//! `stretch`, `known`, `passing`, `outline`, `cuts`, `lines`.
+//! `observer`, `past`, `stretch`, `known`, `passing`, `outline`, `cuts`, `lines`.
 #![tactic(auto)]
 
 mod cuts;
@@ -20,10 +20,12 @@ mod lines;
 mod list;
 mod merge;
 mod merging;
+mod observer;
 mod order;
 mod outline;
 mod part;
 mod passing;
+mod past;
 mod placed;
 mod places;
 mod stretch;
@@ -32,8 +34,10 @@ pub use cuts::are_contradictory;
 pub use error::AuditError;
 pub use lines::write_order;
 pub use list::{Audit, audit_all};
+pub use observer::Observer;
 pub use order::{audit, audit_in_runs, dead_ends_have_no_order, the_guest_of_an_order_never_moves};
 pub use outline::{Outline, OutlineAudit, are_outlines_contradictory, audit_outlines};
 pub use part::Place;
+pub use past::Past;
 pub use placed::{Events, HostTurns, Order, Piece};
 pub use stretch::{Stretch, Stretches};

@@ -9,11 +9,12 @@ ghost use Rattle.rvm_audit.specs.OutlineAudits.{ArePartsOf, IsPartOf, IsOutlineA
 ghost use Rattle.rvm_audit.specs.Outlines.{AreOutlinesOf, IsOutlineOf, entries_at, outlines_in};
 ghost use Rattle.rvm_recorder.specs.History.{History};
 
+use crate::observer::Observer;
 use crate::part::{Part, Place};
 use crate::passing::pass_all;
 use crate::stretch::{Stretch, Stretches};
 use rvm_mem::PagedMemory;
-use rvm_recorder::{Journal, Observer};
+use rvm_recorder::Journal;
 use std::alloc::{AllocError, Global};
 use std::marker::Model;
 

@@ -7,9 +7,11 @@ ghost use Rattle.rvm_message.specs.declared.event.HostEvent.TheVariants.{Came};
 ghost use Rattle.rvm_recorder.specs.Items.{all_of};
 
 use crate::frames::came;
+use crate::observer::Observer;
+use crate::past::Past;
 use rvm_frame::Frame;
 use rvm_message::Shared;
-use rvm_recorder::{Entry, Item, ItemRef, Observer, Past};
+use rvm_recorder::{Entry, Item, ItemRef};
 use std::alloc::{AllocError, Global};
 use std::marker::Model;
 use std::snapshot::Snapshot;

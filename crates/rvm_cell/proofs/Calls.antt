@@ -24,8 +24,8 @@ use Rattle.rvm_cell.specs.Turns.{AreTurns, Dry, Mark, after_step, after_turns, d
 use Rattle.rvm_cell.specs.declared.harts.TurnsEnd.{TurnsEnd}
 use Rattle.rvm_cell.specs.declared.harts.TurnsEnd.TheVariants as ended
 use Rattle.rvm_cell.specs.declared.harts.TurnsEnd.TheVariants.{StepsSpent}
-use Rattle.rvm_cell.specs.declared.slices.Then.{Then}
-use Rattle.rvm_cell.specs.declared.slices.Then.TheVariants.{GoOn, Elsewhere, Halted}
+use Rattle.rvm_station.specs.declared.turn.Then.{Then}
+use Rattle.rvm_station.specs.declared.turn.Then.TheVariants.{GoOn, Elsewhere, Halted}
 use Rattle.rvm_cell.proofs.SliceTurns.{drained_last, drained_on, slice_turns, told_a, told_b}
 
 -- a run goes on by this call

@@ -15,7 +15,8 @@ use Rattle.rvm_cell.specs.declared.next.Next.TheVariants as next
 use Rattle.rvm_cell.specs.Copiers.{Follows, HasTried, IsNext, MayAsk, copies, copies_on, is_given}
 use Rattle.rvm_cell.specs.Endings.{last_of, tells_left}
 use Rattle.rvm_cell.specs.Next.{after_copy, is_gone, says_no_move}
-use Rattle.rvm_cell.specs.Work.{AreOfCopier, IsCall, IsOfCopier, PlainCaller, PlainCopier}
+use Rattle.rvm_cell.specs.Work.{AreOfCopier, IsCall, PlainCaller, PlainCopier}
+use Rattle.rvm_station.specs.Movers.{IsOfCopier}
 
 -- WHAT MAY BE ASKED
 

@@ -14,7 +14,8 @@ use Rattle.rvm_cell.specs.declared.next.Next.TheVariants as next
 use Rattle.rvm_precopy.specs.declared.policy.Policy.{Policy}
 use Rattle.rvm_cell.specs.Copiers.{MayAsk}
 use Rattle.rvm_cell.specs.Endings.{IsCopierEnd, TellsOver, last_of, tells_done, tells_given_up}
-use Rattle.rvm_cell.specs.Heard.{IsAllButLast, IsReceiverEnd, IsWholeStream, all_for_host, frames_in}
+use Rattle.rvm_cell.specs.Heard.{IsAllButLast, IsReceiverEnd, IsWholeStream, frames_in}
+use Rattle.rvm_station.specs.Streams.{all_for_host}
 use Rattle.rvm_cell.specs.Next.{after_copy}
 
 -- WHAT THE COPIER DOES NEXT

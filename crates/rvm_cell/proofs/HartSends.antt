@@ -5,8 +5,7 @@ use Rattle.std.proofs.Crossing.{crosses}
 use Rattle.std.specs.declared.sync.ledger.Ledger as Ledger
 use Rattle.rvm_recorder.specs.declared.seat.Seating as Seating
 use Rattle.rvm_recorder.specs.contracts.seat.Seat as Seat
-use Rattle.rvm_recorder.proofs.SharedSends.{seat_send}
-use Rattle.rvm_recorder.proofs.SharedSends.{item_send}
+use Rattle.rvm_recorder.proofs.SharedSends.{seat_send, item_send}
 use Rattle.rvm_cell.specs.contracts.harts.HartsWorked as HartsWorked
 
 pub harts_worked_send : (A B : RattleType) (a : Seating.Ghosts A.Denot) (k : Ledger.Ghosts A.Denot)

@@ -1,21 +1,11 @@
-pub mod Events
-pub mod Logs
-pub mod CellSends
-pub mod Asked
 pub mod Sends
 pub mod Works
 pub mod Endings
 pub mod Copiers
 pub mod Heard
 pub mod Examples
-pub mod StationSends
-pub mod AllOf
-pub mod Shown
-pub mod Begins
-pub mod Records
 pub mod HartSends
 pub mod SliceTurns
 pub mod Calls
 pub mod TurnExamples
-mod LogExamples
 pub mod Failing

@@ -7,8 +7,8 @@ use Rattle.rvm_board.specs.declared.event.BoardEvent.TheVariants as asked
 use Rattle.rvm_board.specs.declared.event.BoardReply.TheVariants as answer
 use Rattle.rvm_cell.specs.Calls.{AtA, AtB, marks_in}
 use Rattle.rvm_cell.specs.Turns.{Dry, Mark, Turned, after_step, after_turns, drained, if_dry, mark_made, turn_of_step, turns, turns_of}
-use Rattle.rvm_cell.specs.declared.slices.Then.{Then}
-use Rattle.rvm_cell.specs.declared.slices.Then.TheVariants.{GoOn, Elsewhere, Halted}
+use Rattle.rvm_station.specs.declared.turn.Then.{Then}
+use Rattle.rvm_station.specs.declared.turn.Then.TheVariants.{GoOn, Elsewhere, Halted}
 use Rattle.rvm_message.specs.declared.event.Command.TheVariants as command
 use Rattle.rvm_message.specs.declared.event.HostEvent.{HostEvent}
 use Rattle.rvm_message.specs.declared.event.HostEvent.TheVariants as event

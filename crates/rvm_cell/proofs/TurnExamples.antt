@@ -11,7 +11,7 @@ use Rattle.rvm_message.specs.declared.reply.HostRefusal.TheVariants as refusal
 use Rattle.rvm_message.specs.declared.reply.HostReply.{HostReply}
 use Rattle.rvm_message.specs.declared.reply.HostReply.TheVariants as reply
 use Rattle.rvm_cell.specs.Calls.{AtA, AtB, Call, EndsDry, bytes_in, in_a, in_b, is_dry, is_of_run, marks_in}
-use Rattle.rvm_cell.specs.declared.slices.Then.TheVariants.{GoOn, Halted}
+use Rattle.rvm_station.specs.declared.turn.Then.TheVariants.{GoOn, Halted}
 use Rattle.rvm_cell.specs.declared.harts.TurnsEnd.TheVariants as ended
 use Rattle.rvm_cell.specs.Turns.{AreTurns, Dry, Turned, drained, turns}
 

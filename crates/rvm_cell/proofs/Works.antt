@@ -23,8 +23,8 @@ use Rattle.rvm_cell.specs.declared.end.WorkEnd.{WorkEnd}
 use Rattle.rvm_cell.specs.Endings.{last_of}
 use Rattle.rvm_cell.specs.Heard.{frame_in, frames_in}
 use Rattle.rvm_cell.specs.Turns.{after_step}
-use Rattle.rvm_cell.specs.declared.slices.Then.{Then}
-use Rattle.rvm_cell.specs.declared.slices.Then.TheVariants.{GoOn}
+use Rattle.rvm_station.specs.declared.turn.Then.{Then}
+use Rattle.rvm_station.specs.declared.turn.Then.TheVariants.{GoOn}
 use Rattle.rvm_cell.specs.Work.{AreOfReceiver, IsCall, IsOfReceiver, IsWork, PlainCaller}
 
 -- what stands in two lists stands in the first, or in the second

@@ -1,9 +1,3 @@
-pub mod Events
-pub mod Asked
-pub mod Logs
-pub mod Halts
-pub mod Limits
-pub mod Looks
 pub mod Workers
 pub mod Ends
 pub mod Work
@@ -11,10 +5,6 @@ pub mod Next
 pub mod Endings
 pub mod Copiers
 pub mod Heard
-pub mod News
-pub mod Hearing
-pub mod Console
-pub mod Movers
 pub mod Turns
 pub mod Drains
 pub mod Calls

@@ -12,8 +12,8 @@ use Rattle.rvm_message.specs.declared.reply.HostReply.{HostReply}
 use Rattle.rvm_message.specs.declared.reply.HostReply.TheVariants as reply
 use Rattle.rvm_cell.specs.declared.harts.TurnsEnd.{TurnsEnd}
 use Rattle.rvm_cell.specs.declared.harts.TurnsEnd.TheVariants as ended
-use Rattle.rvm_cell.specs.declared.slices.Then.{Then}
-use Rattle.rvm_cell.specs.declared.slices.Then.TheVariants.{GoOn, Elsewhere, Halted}
+use Rattle.rvm_station.specs.declared.turn.Then.{Then}
+use Rattle.rvm_station.specs.declared.turn.Then.TheVariants.{GoOn, Elsewhere, Halted}
 use Rattle.rvm_cell.specs.declared.end.WorkEnd.{WorkEnd}
 use Rattle.rvm_cell.specs.declared.end.WorkEnd.TheVariants.{GuestStopped, LinkFault, OutOfRange}
 use Rattle.rvm_cell.specs.Endings.{is_uncalled}

@@ -5,12 +5,12 @@ use Rattle.rvm_recorder.specs.Calls.{AreOfSeat, IsReceipt, IsWhole}
 use Rattle.rvm_recorder.specs.Seats.{PlainSeat, seat_of}
 use Rattle.rvm_recorder.specs.Receipts.{PlainReceipt}
 use Rattle.rvm_frame.specs.declared.frame.Frame.{Frame}
-use Rattle.rvm_message.specs.declared.event.Command.TheVariants as command
 use Rattle.rvm_message.specs.declared.event.HostEvent.{HostEvent}
 use Rattle.rvm_message.specs.declared.event.HostEvent.TheVariants as event
 use Rattle.rvm_message.specs.declared.reply.HostReply.{HostReply}
 use Rattle.rvm_message.specs.Exchanges.{PlainExchange}
 use Rattle.rvm_precopy.specs.declared.policy.Policy.{Policy}
+use Rattle.rvm_station.specs.Movers.{IsOfCopier}
 use Rattle.rvm_cell.specs.declared.steps.SliceSteps.{SliceSteps}
 use Rattle.rvm_cell.specs.Turns.{after_step}
 
@@ -19,14 +19,6 @@ pub record IsWork (first seat : PlainSeat) (receipts : List PlainReceipt) : Type
   pub seat_is : seat ≡ seat_of first.id (first.count + length receipts)
   pub row : (k : ℕ) (r : PlainReceipt) → slice_get receipts k ≡ Some r
       → (r.seat ≡ first.id) × (r.count ≡ first.count + k)
-
--- what a copier asks of its host: to begin the move to this host with this policy, to carry it on, or to give it up
-abbrev pub IsOfCopier : (to : ℕ) → Policy → HostEvent → Type 0
-IsOfCopier to policy (event.Do (command.Begin x p)) = (x ≡ to) × (p ≡ policy)
-IsOfCopier to policy (event.Do command.Copy) = Unit {0}
-IsOfCopier to policy (event.Do command.Resend) = Unit {0}
-IsOfCopier to policy (event.Do command.Abort) = Unit {0}
-IsOfCopier to policy e = ⊥
 
 -- what a receiver tells its host: a frame of host `from` came
 abbrev pub IsOfReceiver : (from : ℕ) → HostEvent → Type 0

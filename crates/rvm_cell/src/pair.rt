@@ -2,18 +2,19 @@
 
 ghost use Rattle.std.specs.Prelude.{◌≡◌, ◌≢◌, ◌≤◌, true, false, not, [], ◌∷◌, IfErr, IfOk, OnErr};
 ghost use Rattle.rvm_cell.specs.Calls.{Made};
-ghost use Rattle.rvm_cell.specs.declared.slices.Then.TheVariants.{Elsewhere};
+ghost use Rattle.rvm_station.specs.declared.turn.Then.TheVariants.{Elsewhere};
 ghost use Rattle.rvm_cell.specs.Drains.{bytes_of, bytes_told, if_sent, is_nothing, told_by};
 ghost use Rattle.rvm_cell.specs.Turns.{Dry, after_turns, fails_calling, if_dry, turns};
 
 use crate::caller::Caller;
 use crate::end::WorkEnd;
 use crate::gate::{Gate, Watch};
-use crate::slices::{MadeTurns, Then, made_by};
+use crate::slices::{MadeTurns, made_by};
 use rvm_board::{BoardEvent, BoardReply, DRAIN_SIZE, View};
 use rvm_mem::PagedMemory;
 use rvm_message::{Command, HostEvent, HostReply};
 use rvm_recorder::{Seating, SharedHost};
+use rvm_station::Then;
 use std::alloc::Global;
 use std::sync::Wait;
 use std::thread;

@@ -6,20 +6,21 @@ ghost use Rattle.rvm_recorder.specs.Runs.{all_of};
 ghost use Rattle.rvm_frame.specs.Reader.{at_start};
 ghost use Rattle.rvm_frame.specs.Verdict.{verdict};
 ghost use Rattle.rvm_cell.specs.Endings.{last_of};
-ghost use Rattle.rvm_cell.specs.Heard.{AreHeard, Hears, IsFrameEnd, IsHeard, IsHeardOf, IsHeardUpTo, IsReceiverEnd, frames_in, is_between};
+ghost use Rattle.rvm_cell.specs.Heard.{AreHeard, Hears, IsFrameEnd, IsHeard, IsHeardOf, IsHeardUpTo, IsReceiverEnd, frames_in};
+ghost use Rattle.rvm_station.specs.Streams.{is_between};
 ghost use Rattle.rvm_cell.specs.Work.{AreOfReceiver, IsWork};
 
 use crate::end::{WorkEnd, Worked};
 use crate::gate::{Gate, Watch, Worker};
 use crate::hearing::Hearing;
 use crate::next::ends_hearing;
-use crate::stream::is_hello;
 use crate::telling::Side;
 use rvm_frame::{Frame, FrameReader};
 use rvm_link::{Link, LinkRead};
 use rvm_mem::PagedMemory;
 use rvm_message::Shared;
 use rvm_recorder::{Seat, Seating};
+use rvm_station::is_hello;
 use std::alloc::Global;
 use std::sync::Wait;
 

@@ -2,22 +2,12 @@
 
 ghost use Rattle.std.specs.Prelude.{◌≡◌, ◌≢◌, ◌≤◌, ◌<◌, ◌+◌, ◌-◌, ◌%◌, min};
 ghost use Rattle.rvm_cell.specs.Turns.{after_answer, after_step, turns_of};
-ghost use Rattle.rvm_cell.specs.declared.slices.Then.TheVariants.{Elsewhere};
+ghost use Rattle.rvm_station.specs.declared.turn.Then.TheVariants.{Elsewhere};
 
 use crate::steps::SliceSteps;
 use rvm_board::{BoardReply, DRAIN_EVERY};
 use rvm_message::{HostRefusal, HostReply};
-
-/// What comes after the turns that a host made.
-#[derive(Clone, Copy, Debug, PartialEq, Eq)]
-pub enum Then {
-    /// The next turn.
-    GoOn,
-    /// The same turn, at another host: no guest runs at this one.
-    Elsewhere,
-    /// No turn: the board is halted, with this status.
-    Halted(u8),
-}
+use rvm_station::Then;
 
 /// How many turns a slice made, and what comes after them.
 #[derive(Clone, Copy)]

@@ -5,8 +5,9 @@ ghost use Rattle.rvm_recorder.specs.Runs.{all_of, count_in};
 ghost use Rattle.rvm_recorder.specs.Telling.{receipt_at};
 ghost use Rattle.rvm_cell.specs.Turns.{after_step};
 
-use crate::slices::{Then, after_step};
+use crate::slices::after_step;
 use rvm_recorder::ReceiptItem;
+use rvm_station::Then;
 
 /// The steps of a slice, of which there is at least one.
 #[derive(Clone, Copy)]

@@ -21,9 +21,6 @@ pub mod Refusals
 pub mod Ends
 pub mod Seeds
 pub mod Flushed
-pub mod FirstWorld
-pub mod ScriptRefusals
-pub mod ScriptEnds
 pub mod ExtendedLines
 pub mod ExtendedAnswers
 pub mod ExtendedScript

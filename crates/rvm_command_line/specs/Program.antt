@@ -33,6 +33,10 @@ needed_option name = record (option name) { required = true }
 abbrev pub bounded : Text → (least most : ℕ) → Rule
 bounded name least most = record (option name) { parser = Some (parser.Signed (pos least) (pos most)) }
 
+-- an option with a number of 64 bits
+abbrev pub counted : Text → Rule
+counted name = record (option name) { parser = Some (parser.Unsigned 0 18446744073709551615) }
+
 -- an option that has this text if none is given
 abbrev pub with_default : (default : Text) → Rule → Rule
 with_default default rule = record rule { defaults = default ∷ [] }
@@ -190,7 +194,7 @@ tell = with_rule (with_rule (new_app (codes "tell")) (needed (codes "socket"))) 
 abbrev pub with_replay : App → App
 with_replay command =
     with_rule
-    (with_rule (with_rule command (bounded (codes "until") 0 4294967295)) (bounded (codes "turns") 1 4294967295))
+    (with_rule (with_rule command (counted (codes "until"))) (bounded (codes "turns") 1 4294967295))
     (option (codes "script"))
 
 -- one or more words, as many as there are

@@ -6,7 +6,7 @@ ghost use Rattle.clap.specs.Walk.{Rule, rule_of};
 ghost use Rattle.clap.specs.Words.{kind_of};
 ghost use Rattle.clap.specs.declared.error.kind.ErrorKind.TheVariants as kind;
 ghost use Rattle.rvm_command_line.specs.Made.{IsMade};
-ghost use Rattle.rvm_command_line.specs.Program.{allowed, asm, audit, audit_journals, bounded, debug, dis, flag, host, move, needed, needed_option, number, option, program, replay, run, script, several, signature, tell, top, with_addresses, with_board, with_command, with_default, with_explain, with_guest, with_hosting, with_journal, with_move, with_name, with_order, with_policy, with_profile, with_replay, with_report, with_status, with_trace, with_turns, with_verdict, with_watch, with_world};
+ghost use Rattle.rvm_command_line.specs.Program.{allowed, asm, audit, audit_journals, bounded, counted, debug, dis, flag, host, move, needed, needed_option, number, option, program, replay, run, script, several, signature, tell, top, with_addresses, with_board, with_command, with_default, with_explain, with_guest, with_hosting, with_journal, with_move, with_name, with_order, with_policy, with_profile, with_replay, with_report, with_status, with_trace, with_turns, with_verdict, with_watch, with_world};
 
 use clap::builder::ValueParser;
 use clap::{Arg, ArgAction, Command, Error};
@@ -1003,11 +1003,12 @@ fn replayed_turns_option<'a>(alloc: Global) -> Arg<'a>
 
 /// The option `--until` of `replay`: the most events that are done.
 fn until_option<'a>(alloc: Global) -> Arg<'a>
-    ensures rule { rule_of result ≡ bounded (codes "until") 0 4294967295 }
+    ensures rule { rule_of result ≡ counted (codes "until") }
     ensures local { result.global ≡ false }
 {
-    let help = "How many events of the journal are done at most, 0 to 4294967295";
-    bounded(alloc, "until", "N", 0, u32::MAX, help)
+    let help = "How many events of the journal are done at most, 0 to 18446744073709551615";
+    let parser = ValueParser::unsigned(0, u64::MAX);
+    option(alloc, "until", "N", help).value_parser(parser)
 }
 
 /// The option `--script` of `replay`: the file of the debugger's session.

@@ -799,8 +799,8 @@ fn read_one_replay<'a>(replay: &ArgMatches<'a>) -> Result<ReplayArguments<'a>, &
     let Some(names) = texts(replay, "journal") else {
         return Err("JOURNAL is missing");
     };
-    let Some(until) = optional_number(replay, "until", 0, u32::MAX) else {
-        return Err("--until takes a decimal number from 0 to 4294967295");
+    let Some(until) = optional_count(replay, "until") else {
+        return Err("--until takes a decimal number from 0 to 18446744073709551615");
     };
     Ok(ReplayArguments {
         journal: only_one(names)?,
@@ -977,6 +977,16 @@ fn optional_number(command: &ArgMatches, option: &str, least: u32, most: u32) ->
     Some(Some(number(command, option, least, most)?))
 }
 
+/// The number of an option that need not be given, of 64 bits, if it is given. `None` if what is given is no such number.
+fn optional_count(command: &ArgMatches, option: &str) -> Option<Option<u64>>
+    ensures { IfSome result (IsOptionalNumber (first_of option.now (rows_of (found_of command.now)))) }
+{
+    match text(command, option) {
+        None => Some(None),
+        Some(text) => Some(Some(unsigned(text)?)),
+    }
+}
+
 /// The number of an option that need not be given, from `least` to `most`, or `default` if none is given. `None` if what
 /// is given is no such number.
 fn number_or(command: &ArgMatches, option: &str, default: u32, least: u32, most: u32) -> Option<u32>
@@ -988,9 +998,9 @@ fn number_or(command: &ArgMatches, option: &str, default: u32, least: u32, most:
     number(command, option, least, most)
 }
 
-/// The number below 2^32 that a text writes in decimal digits alone, if it does.
+/// The number below 2^64 that a text writes in decimal digits alone, if it does.
 #[tactic(auto, using(crate::proofs::Numbers::unsigned))]
-fn unsigned(text: &str) -> Option<u32>
+fn unsigned(text: &str) -> Option<u64>
     ensures { IfSome result (IsNumber (Some text.now)) }
 {
     match text.as_bytes() {
@@ -1000,11 +1010,11 @@ fn unsigned(text: &str) -> Option<u32>
 }
 
 /// The number, if it is from `least` to `most`.
-fn within(number: u32, least: u32, most: u32) -> Option<u32>
+fn within(number: u64, least: u32, most: u32) -> Option<u32>
     ensures { result ≡ (if nat_le least number && nat_le number most then Some number else None) }
 {
-    if least <= number && number <= most {
-        Some(number)
+    if u64::from(least) <= number && number <= u64::from(most) {
+        Some(number as u32)
     } else {
         None
     }

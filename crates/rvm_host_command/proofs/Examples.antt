@@ -2,7 +2,7 @@
 use Rattle.std.proofs.Common.{◌≡◌, ◌≢◌, ℕ, List, [], ◌∷◌, None, Some, true, false, ap, arith, codes, refl}
 use Rattle.std.specs.Prelude.{slice_index}
 use Rattle.rvm_arguments.specs.declared.arguments.StatusOf.TheVariants as tells
-use Rattle.rvm_cell.specs.declared.host_harts.HartsEnd.TheVariants.{Stopped, Halted, Spent, ConsoleFault}
+use Rattle.rvm_station.specs.declared.host_harts.HartsEnd.TheVariants.{Stopped, Halted, Spent, ConsoleFault}
 use Rattle.rvm_host_command.specs.Answered.{AreAnswers, AreAnswered, GoesOn, Says}
 use Rattle.rvm_host_command.specs.Hosted.{host_status}
 use Rattle.rvm_host_command.specs.Live.{live_status}

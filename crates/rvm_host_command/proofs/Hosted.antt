@@ -3,8 +3,8 @@ use Rattle.std.proofs.Common.{◌≡◌, ◌≢◌, ℕ, List, length, Option, R
 use Rattle.std.specs.Prelude.{IfOk}
 use Rattle.rvm_arguments.specs.declared.arguments.HostArguments.{HostArguments}
 use Rattle.rvm_board.specs.Guest.{GuestState}
-use Rattle.rvm_cell.specs.declared.host_harts.HartsEnd.{HartsEnd}
-use Rattle.rvm_cell.specs.declared.host_harts.HartsEnd.TheVariants.{ConsoleFault}
+use Rattle.rvm_station.specs.declared.host_harts.HartsEnd.{HartsEnd}
+use Rattle.rvm_station.specs.declared.host_harts.HartsEnd.TheVariants.{ConsoleFault}
 use Rattle.rvm_host_command.specs.Hosted.{HasBegun, HasWorked, IsGuestOf, IsHosted, IsHostedTo, IsMember, opening_of, status_told}
 
 -- a host of its world, with its guest, worked until it came to its end

@@ -6,7 +6,7 @@ use Rattle.rvm_board.specs.Guest.{GuestState}
 use Rattle.rvm_guest.proofs.TheGuest.{board_laws}
 use Rattle.rvm_guest.specs.TheGuest.{board}
 use Rattle.rvm_guest.specs.Valid.{is_valid}
-use Rattle.rvm_cell.specs.Events.{next_at}
+use Rattle.rvm_station.specs.Events.{next_at}
 use Rattle.rvm_audit.proofs.Law.{allowed, begins}
 use Rattle.rvm_audit.specs.Hosts.{Openings}
 use Rattle.rvm_audit.specs.Worlds.{AreNew}

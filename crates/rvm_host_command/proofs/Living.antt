@@ -4,7 +4,7 @@ use Rattle.std.specs.Option.{option_map}
 use Rattle.std.specs.Prelude.{IfErr, IfOk, is_some}
 use Rattle.std.specs.Result.{result_ok}
 use Rattle.rvm_arguments.specs.declared.arguments.LiveArguments.{LiveArguments}
-use Rattle.rvm_cell.specs.declared.host_harts.HartsEnd.{HartsEnd}
+use Rattle.rvm_station.specs.declared.host_harts.HartsEnd.{HartsEnd}
 use Rattle.rvm_host_command.specs.Live.{IsLiveEnd, IsLiveRun}
 
 -- a run that ended is one, and of one that did not begin nothing was written

@@ -5,7 +5,7 @@ use Rattle.rvm_board.specs.declared.snapshot.Snapshot.{Snapshot}
 use Rattle.rvm_board.specs.Guest.{Guest}
 use Rattle.rvm_board.specs.Snapshot.{state_in}
 use Rattle.rvm_board.specs.State.{State}
-use Rattle.rvm_cell.specs.Looks.{HasLooked}
+use Rattle.rvm_station.specs.Looks.{HasLooked}
 use Rattle.rvm_command.specs.ExtendedAnswers.{csrs_answer, devices_text}
 use Rattle.rvm_command.proofs.Showing.{same_count}
 use Rattle.rvm_host_command.specs.declared.answers.Outcome.{Outcome}

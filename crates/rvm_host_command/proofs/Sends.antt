@@ -2,7 +2,7 @@
 use denote.RattleType.{RattleType}
 use denote.Param.Send.{IsSend, IsSync, sendable}
 use Rattle.std.proofs.Crossing.{crosses}
-use Rattle.rvm_cell.specs.declared.origin.Hosting as Hosting
+use Rattle.rvm_station.specs.declared.origin.Hosting as Hosting
 use Rattle.rvm_link.specs.declared.made.Origin as Origin
 use Rattle.std.specs.declared.io.traits.Read as Read
 use Rattle.std.specs.declared.io.traits.Write as Write

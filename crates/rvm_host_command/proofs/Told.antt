@@ -1,9 +1,9 @@
 -- A reply that was given and written is told.
-use Rattle.std.proofs.Common.{◌≡◌, ℕ, List, Option, None, inr}
+use Rattle.std.proofs.Common.{◌≡◌, ℕ, List, Option, None, inr, refl}
 use Rattle.std.specs.Io.KnownBytes.{Appends}
 use Rattle.rvm_board.specs.declared.event.BoardEvent.{BoardEvent}
 use Rattle.rvm_board.specs.declared.event.BoardEvent.TheVariants.{Input}
-use Rattle.rvm_cell.specs.Asked.{Answers}
+use Rattle.rvm_station.specs.Asked.{Answers}
 use Rattle.rvm_core.specs.Replies.{guest_text, move_text, steps_text}
 use Rattle.rvm_debug.specs.Answers.{address_of}
 use Rattle.rvm_host_command.specs.declared.answers.Outcome.{Outcome}
@@ -13,7 +13,6 @@ use Rattle.rvm_message.specs.declared.event.Command.TheVariants.{Board}
 use Rattle.rvm_message.specs.declared.event.HostEvent.TheVariants.{Do}
 use Rattle.rvm_message.specs.declared.reply.HostReply.{HostReply}
 use Rattle.rvm_message.specs.Replies.{reply_of}
-use Rattle.std.proofs.Common.{refl}
 
 module _ (gave : Answers) (outcome : Outcome) (before now : Option (List ℕ)) (r : HostReply) where
   pub command_told : (c : Command) → gave (Do c) r → Appends before now (move_text (reply_of r) None) → outcome ≡ outcome_of r

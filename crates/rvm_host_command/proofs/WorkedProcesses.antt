@@ -5,7 +5,7 @@ use Rattle.rvm_host.specs.Modes.{Run}
 use Rattle.rvm_board.specs.Guest.{GuestState}
 use Rattle.rvm_guest.specs.TheGuest.{board}
 use Rattle.rvm_guest.specs.Valid.{is_valid}
-use Rattle.rvm_cell.specs.Events.{IsReached}
+use Rattle.rvm_station.specs.Events.{IsReached}
 use Rattle.rvm_audit.specs.Hosts.{Openings}
 use Rattle.rvm_message.specs.Events.{BoardHostEvent}
 use Rattle.rvm_protocol.specs.Commands.{AbortMove, Begin, Came, Do, Policy}

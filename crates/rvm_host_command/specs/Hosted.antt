@@ -5,12 +5,12 @@ use Rattle.rvm_arguments.specs.declared.arguments.HostArguments.{HostArguments}
 use Rattle.rvm_command.specs.GuestFiles.{IsGuestIn}
 use Rattle.rvm_host.specs.Hosts.{PlainHost, new_host}
 use Rattle.rvm_board.specs.Guest.{GuestState}
-use Rattle.rvm_cell.specs.Events.{IsAnswer}
-use Rattle.rvm_cell.specs.Console.{IsShown}
-use Rattle.rvm_cell.specs.Halts.{EndsSo}
-use Rattle.rvm_cell.specs.declared.host_harts.HartsEnd.{HartsEnd}
-use Rattle.rvm_cell.specs.declared.host_harts.HartsEnd.TheVariants.{Stopped, Halted, Spent, ConsoleFault}
-use Rattle.rvm_greeting.specs.Peers.{is_letter_of, peers_in}
+use Rattle.rvm_station.specs.Events.{IsAnswer}
+use Rattle.rvm_station.specs.Console.{IsShown}
+use Rattle.rvm_station.specs.Halts.{EndsSo}
+use Rattle.rvm_station.specs.declared.host_harts.HartsEnd.{HartsEnd}
+use Rattle.rvm_station.specs.declared.host_harts.HartsEnd.TheVariants.{Stopped, Halted, Spent, ConsoleFault}
+use Rattle.rvm_link.specs.Peers.{is_letter_of, peers_in}
 use Rattle.rvm_debug.specs.Words.{lines}
 
 -- the host of a process at its start, with this guest or none: its number, and how many hosts the world has

@@ -3,8 +3,8 @@ use Rattle.std.specs.Prelude.{◌≡◌, ◌≢◌, ℕ, true, List, is_some, Op
 use Rattle.rvm_arguments.specs.declared.arguments.LiveArguments.{LiveArguments}
 use Rattle.rvm_arguments.specs.declared.arguments.StatusOf.{StatusOf}
 use Rattle.rvm_board.specs.Guest.{GuestState}
-use Rattle.rvm_cell.specs.declared.host_harts.HartsEnd.{HartsEnd}
-use Rattle.rvm_cell.specs.declared.host_harts.HartsEnd.TheVariants.{Stopped, Halted, Spent, ConsoleFault}
+use Rattle.rvm_station.specs.declared.host_harts.HartsEnd.{HartsEnd}
+use Rattle.rvm_station.specs.declared.host_harts.HartsEnd.TheVariants.{Stopped, Halted, Spent, ConsoleFault}
 use Rattle.rvm_command.specs.declared.run.Ended.TheVariants.{HaltedWith, StepsSpent}
 use Rattle.rvm_command.specs.Ends.{run_status}
 use Rattle.rvm_host_command.specs.Hosted.{HasWorked, IsGuestOf, opening_of}

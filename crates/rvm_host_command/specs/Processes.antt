@@ -4,7 +4,7 @@ use Rattle.rvm_host.specs.Hosts.{PlainHost, host_of}
 use Rattle.rvm_board.specs.declared.event.BoardEvent.{BoardEvent}
 use Rattle.rvm_board.specs.Guest.{Guest}
 use Rattle.rvm_guest.specs.TheGuest.{board}
-use Rattle.rvm_cell.specs.Events.{IsReached}
+use Rattle.rvm_station.specs.Events.{IsReached}
 use Rattle.rvm_audit.specs.Hosts.{Openings, cons_if}
 use Rattle.rvm_message.specs.Events.{BoardHostEvent}
 use Rattle.rvm_protocol.specs.Commands.{Came, Do}

@@ -4,9 +4,9 @@ use Rattle.std.specs.Option.{unwrap_or}
 use Rattle.std.specs.Prelude.{◌≡◌, ◌⊎◌, ℕ, ◌≤◌, List, ◌++◌, codes, Option, None, if◌then◌else◌}
 use Rattle.rvm_board.specs.declared.event.BoardEvent.{BoardEvent}
 use Rattle.rvm_board.specs.declared.event.BoardReply.TheVariants as answer
-use Rattle.rvm_cell.specs.Asked.{Answers}
-use Rattle.rvm_cell.specs.Console.{IsInput}
-use Rattle.rvm_cell.specs.News.{IsFinished}
+use Rattle.rvm_station.specs.Asked.{Answers}
+use Rattle.rvm_station.specs.Console.{IsInput}
+use Rattle.rvm_station.specs.News.{IsFinished}
 use Rattle.rvm_core.specs.declared.world_line.Asked.{Asked}
 use Rattle.rvm_core.specs.declared.world_line.Asked.TheVariants as asked
 use Rattle.rvm_core.specs.Replies.{guest_text, move_text, steps_text}

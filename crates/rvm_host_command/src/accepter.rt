@@ -2,7 +2,7 @@
 
 use crate::meeting::meet_accepted;
 use crate::process::Process;
-use rvm_cell::Hosting;
+use rvm_station::Hosting;
 use std::net::{Net, OpenListener, OpenStream};
 use std::random::RandomSource;
 use std::sync::Wait;

@@ -2,7 +2,7 @@
 
 ghost use Rattle.std.specs.Prelude.{◌≡◌, ◌++◌, codes, IfOk, IfSome};
 ghost use Rattle.std.specs.Io.KnownBytes.{Appends};
-ghost use Rattle.rvm_cell.specs.Movers.{IsMoveEnd};
+ghost use Rattle.rvm_station.specs.Movers.{IsMoveEnd};
 ghost use Rattle.rvm_host_command.specs.Told.{AreStepsTold, IsAskedTold, IsCommandTold, IsEventTold, IsInputTold, IsLastInput, IsLastStep, IsLineTold, IsMoveTold, outcome_of};
 ghost use Rattle.rvm_message.specs.declared.event.Command.TheVariants as command;
 ghost use Rattle.rvm_message.specs.declared.event.HostEvent.TheVariants.{Do};
@@ -11,9 +11,6 @@ ghost use Rattle.rvm_refusal.specs.Refusal.{text_of};
 use crate::looks::{answer_further, unlettered};
 use crate::process::Process;
 use rvm_board::{BoardEvent, BoardReply};
-use rvm_cell::{
-    Access, Figures, Hosting, MoveEnd, MovePlan, Progress, ProgressReporter, move_away,
-};
 use rvm_core::{Asked, WorldLine, write_guest_reply, write_move_reply, write_steps_reply};
 use rvm_debug::{HexText, Line, address_of, is_refused};
 use rvm_host::ModeKind;
@@ -21,6 +18,9 @@ use rvm_journal::letter_of;
 use rvm_message::{Command, HostReply};
 use rvm_precopy::Policy;
 use rvm_refusal::{LinkFault, Refusal};
+use rvm_station::{
+    Access, Figures, Hosting, MoveEnd, MovePlan, Progress, ProgressReporter, move_away,
+};
 use std::io::{Read, Write};
 use std::net::OpenStream;
 use std::sync::Wait;

@@ -1,7 +1,7 @@
 //! Why a host process or a live run does not begin, or a host process ends before it is told to.
 
 use rvm_command::refused::Refused;
-use rvm_greeting::PeersFault;
+use rvm_link::PeersFault;
 use std::alloc::AllocError;
 use std::io;
 use thiserror::Error;

@@ -2,7 +2,7 @@
 
 ghost use Rattle.std.specs.Prelude.{◌≡◌, ◌≢◌, ◌≤◌, ◌⊎◌, IfErr, IfOk, length, true};
 ghost use Rattle.rvm_host_command.specs.Hosted.{HasBegun, HasWorked, IsGuestOf, IsHosted, IsHostedTo, IsMember, IsNamed, host_status, opening_of, status_told};
-ghost use Rattle.rvm_cell.specs.declared.host_harts.HartsEnd.TheVariants.{ConsoleFault};
+ghost use Rattle.rvm_station.specs.declared.host_harts.HartsEnd.TheVariants.{ConsoleFault};
 
 use crate::address::{checked_address, is_path, listen_at, listen_for_operators};
 use crate::fault::{HostFault, Place};
@@ -11,12 +11,12 @@ use crate::keeping::{begin_journal, image_of};
 use crate::operators::Operators;
 use rvm_arguments::HostArguments;
 use rvm_board::Debugged;
-use rvm_cell::{HartsEnd, InputQueue};
 use rvm_command::guest::read_guest;
-use rvm_greeting::{Peers, Secret, read_peers};
 use rvm_journal::{Header, Image, JournalWriter, letter_of};
+use rvm_link::{Peers, Secret, read_peers};
 use rvm_mem::{Memory, PagedMemory};
 use rvm_refusal::LinkFault;
+use rvm_station::{HartsEnd, InputQueue};
 use std::alloc::Global;
 use std::fs;
 use std::io::Write;

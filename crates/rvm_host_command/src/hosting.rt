@@ -2,8 +2,8 @@
 
 ghost use Rattle.std.specs.Prelude.{◌≡◌, ◌≢◌, IfErr, IfOk, length};
 ghost use Rattle.rvm_host_command.specs.Hosted.{HasWorked, opening_of};
-ghost use Rattle.rvm_recorder.specs.Logs.{IsEmpty};
-ghost use Rattle.rvm_cell.specs.declared.host_harts.HartsEnd.TheVariants.{ConsoleFault};
+ghost use Rattle.rvm_station.specs.Logs.{IsEmpty};
+ghost use Rattle.rvm_station.specs.declared.host_harts.HartsEnd.TheVariants.{ConsoleFault};
 
 use crate::door::Door;
 use crate::fault::HostFault;
@@ -13,14 +13,13 @@ use crate::process::Process;
 use crate::threads::work_beside;
 use crate::turns::Turns;
 use rvm_board::Debugged;
-use rvm_cell::{
-    HartsEnd, HartsPlan, HostCell, Hosting, InputQueue, Of, Opening, STREAM_VERSION, Station,
-    take_back,
-};
-use rvm_greeting::{Peers, Registry, Secret};
 use rvm_host::Host;
+use rvm_link::{Peers, Registry, Secret};
 use rvm_mem::{MAX_PAGES, PagedMemory};
-use rvm_recorder::EventLog;
+use rvm_station::{
+    EventLog, HartsEnd, HartsPlan, HostCell, Hosting, InputQueue, Of, Opening, STREAM_VERSION,
+    Station, take_back,
+};
 use std::alloc::{AllocError, Global};
 use std::io;
 use std::io::Write;

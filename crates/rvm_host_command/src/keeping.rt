@@ -2,7 +2,7 @@
 
 ghost use Rattle.std.specs.Prelude.{IfOk};
 ghost use Rattle.std.specs.Option.{option_and_then};
-ghost use Rattle.rvm_recorder.specs.Logs.{IsEmpty};
+ghost use Rattle.rvm_station.specs.Logs.{IsEmpty};
 
 use crate::fault::HostFault;
 use rvm_board::Debugged;

@@ -4,7 +4,7 @@
 //! by itself, if each frame that came to it had been sent to it before, then together they made a run of a world, in which
 //! the guest is the guest of one board that never moves.
 //!
-//! Stands on `rvm_cell` for the workers of a host, on `rvm_greeting` for greetings, on sockets of the runtime, and on
+//! Stands on `rvm_station` for the workers of a host, on `rvm_link` for greetings, on sockets of the runtime, and on
 //! `rvm_journal` for the journal that it writes. It must not know files, but for the socket of operators
 //! and the file of the host's own journal.
 //!

@@ -4,18 +4,15 @@ ghost use Rattle.std.specs.Prelude.{◌≡◌, ◌≢◌, true, IfErr, IfOk, Opt
 ghost use Rattle.std.specs.Result.{result_ok};
 ghost use Rattle.rvm_host_command.specs.Hosted.{HasWorked, opening_of};
 ghost use Rattle.rvm_host_command.specs.Live.{IsLiveEnd, IsLiveRun, IsLiveTo, live_status};
-ghost use Rattle.rvm_recorder.specs.Logs.{IsEmpty};
-ghost use Rattle.rvm_cell.specs.declared.host_harts.HartsEnd.{HartsEnd};
-ghost use Rattle.rvm_cell.specs.declared.host_harts.HartsEnd.TheVariants.{ConsoleFault, Spent};
+ghost use Rattle.rvm_station.specs.Logs.{IsEmpty};
+ghost use Rattle.rvm_station.specs.declared.host_harts.HartsEnd.{HartsEnd};
+ghost use Rattle.rvm_station.specs.declared.host_harts.HartsEnd.TheVariants.{ConsoleFault, Spent};
 
 use crate::fault::HostFault;
 use crate::hosting::{draw_numbers, harts_plan};
 use crate::keeping::{begin_journal, image_of, tell_kept};
 use rvm_arguments::{LiveArguments, StatusOf};
 use rvm_board::Debugged;
-use rvm_cell::{
-    CellAccess, HartsEnd, HostCell, InputQueue, Of, Opening, STREAM_VERSION, Station, harts_worker,
-};
 use rvm_command::guest::read_guest;
 use rvm_command::refused::{Refused, tell};
 use rvm_command::run::Ended;
@@ -23,8 +20,11 @@ use rvm_command::run_command::tell_run_end;
 use rvm_host::Host;
 use rvm_journal::{Header, JournalWriter};
 use rvm_mem::{MAX_PAGES, PagedMemory};
-use rvm_recorder::EventLog;
 use rvm_refusal::{LinkFault, Refusal};
+use rvm_station::{
+    CellAccess, EventLog, HartsEnd, HostCell, InputQueue, Of, Opening, STREAM_VERSION, Station,
+    harts_worker,
+};
 use std::alloc::Global;
 use std::io;
 use std::io::{Sink, Write};

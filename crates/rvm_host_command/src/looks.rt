@@ -7,12 +7,12 @@ ghost use Rattle.rvm_host_command.specs.Looks.{AreCsrsTold, AreDevicesTold, IsFu
 
 use crate::answers::{Outcome, refuse};
 use rvm_board::Snapshot;
-use rvm_cell::{Access, Hosting};
 use rvm_command::extended_answers::{write_csrs, write_devices};
 use rvm_command::extended_line::ExtendedLine;
 use rvm_core::write_guest_reply;
 use rvm_message::{HostRefusal, HostReply};
 use rvm_refusal::{LinkFault, Refusal};
+use rvm_station::{Access, Hosting};
 use std::io::Write;
 
 /// A line that begins with this letter of a host and a space, without both; each other line as it is.

@@ -2,9 +2,8 @@
 
 use crate::process::Process;
 use crate::timed::Timed;
-use rvm_cell::Hosting;
-use rvm_greeting::{Greeted, GreetingFault, accept, greet};
-use rvm_recorder::Meeting;
+use rvm_link::{Greeted, GreetingFault, accept, greet};
+use rvm_station::{Hosting, Meeting};
 use std::io;
 use std::io::{Read, Write};
 use std::net::OpenStream;

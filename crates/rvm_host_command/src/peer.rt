@@ -4,7 +4,7 @@ use crate::address::address_of;
 use crate::meeting::{meet_connected, meeting_with};
 use crate::outbound::Outbound;
 use crate::process::Process;
-use rvm_cell::{Access, Hosting, hear};
+use rvm_station::{Access, Hosting, hear};
 use std::io;
 use std::io::{BufReader, ErrorKind};
 use std::net::{Net, OpenStream, TcpStream};

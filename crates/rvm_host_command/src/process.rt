@@ -2,8 +2,8 @@
 
 use crate::door::Door;
 use crate::outbound::Outbound;
-use rvm_cell::{HartsPlan, Hosting, Station};
-use rvm_greeting::{Registry, Secret};
+use rvm_link::{Registry, Secret};
+use rvm_station::{HartsPlan, Hosting, Station};
 use std::io::{Read, Write};
 use std::net::OpenStream;
 use std::sync::Mutex;

@@ -1,7 +1,7 @@
 //! The thread that asks all other hosts a question from time to time, so that no connection is silent for long.
 
 use crate::process::Process;
-use rvm_cell::Hosting;
+use rvm_station::Hosting;
 use std::io::{Read, Write};
 use std::net::OpenStream;
 use std::sync::Wait;

@@ -2,14 +2,13 @@
 
 ghost use Rattle.std.specs.Prelude.{◌≡◌, ◌≢◌, ⊤};
 ghost use Rattle.rvm_host_command.specs.Hosted.{HasWorked};
-ghost use Rattle.rvm_cell.specs.declared.host_harts.HartsEnd.TheVariants.{ConsoleFault};
+ghost use Rattle.rvm_station.specs.declared.host_harts.HartsEnd.TheVariants.{ConsoleFault};
 
 use crate::process::Process;
-use rvm_cell::{
-    CellAccess, HartsEnd, HostCell, Hosting, InputQueue, Of, Opening, Task, harts_worker,
-};
 use rvm_mem::PagedMemory;
-use rvm_recorder::EventLog;
+use rvm_station::{
+    CellAccess, EventLog, HartsEnd, HostCell, Hosting, InputQueue, Of, Opening, Task, harts_worker,
+};
 use std::io::{Read, Write};
 use std::net::OpenStream;
 use std::sync::Wait;

@@ -12,7 +12,7 @@ use Rattle.rvm_journal.specs.declared.noted.Noted.{Noted}
 use Rattle.rvm_journal.specs.Noting.{events_of, noted_of}
 use Rattle.rvm_journal.specs.Told.{Told, at_header, digest_after, digest_behind, header_told, mark, marked, no_digest, text_in, told_by, told_from, told_in, told_of}
 use Rattle.rvm_journal.specs.Written.{IsFile, IsTelling, IsWritten, Puts, is_empty, is_no_feed, told_at, with_more}
-use Rattle.rvm_recorder.specs.Logs.{IsEmpty}
+use Rattle.rvm_station.specs.Logs.{IsEmpty}
 use Rattle.rvm_journal.proofs.Lines.{alone, one_line}
 
 some_told : (o : Option Told) → option_and_then (λ u. Some u) o ≡ o

@@ -2,7 +2,7 @@
 use Rattle.std.proofs.Common.{◌≡◌, List, [], ◌++◌, Option, Some, None, ap, refl, subst, sym, ◌∙◌}
 use Rattle.std.proofs.lemmas.List.{append-nil}
 use Rattle.rvm_message.specs.declared.event.HostEvent.{HostEvent}
-use Rattle.rvm_recorder.specs.Logs.{KeepsOn}
+use Rattle.rvm_station.specs.Logs.{KeepsOn}
 use Rattle.rvm_journal.specs.Written.{with_more}
 
 more : (old : Option (List HostEvent)) (events : List HostEvent) → KeepsOn old (with_more old events) events

@@ -9,9 +9,9 @@ use Rattle.std.proofs.lemmas.List.{append-nil}
 use Rattle.std.proofs.lemmas.Option.{same_Some}
 use Rattle.hex.specs.Hex.{decode_of}
 use Rattle.hex.specs.declared.error.FromHexError.{FromHexError}
-use Rattle.rvm_recorder.specs.Logs.{steps_from}
-use Rattle.rvm_recorder.specs.Recorders.{IsFull, Records, room_of}
-use Rattle.rvm_recorder.proofs.Recorders.{longer, none_recorded, then_recorded}
+use Rattle.rvm_station.specs.Logs.{steps_from}
+use Rattle.rvm_journal.specs.Recorders.{IsFull, Records, room_of}
+use Rattle.rvm_journal.proofs.Recorders.{longer, none_recorded, then_recorded}
 use Rattle.rvm_core.specs.WorldLines.{world_line_of}
 use Rattle.rvm_debug.specs.Lines.{numeral}
 use Rattle.rvm_debug.specs.Words.{lines, words}
@@ -21,15 +21,15 @@ use Rattle.rvm_frame.specs.Grammar.{Received}
 use Rattle.rvm_frame.specs.Verdict.{one_frame_of, verdict}
 use Rattle.rvm_message.specs.declared.event.Command.{Command}
 use Rattle.rvm_message.specs.declared.event.HostEvent.{HostEvent}
-use Rattle.rvm_recorder.specs.declared.error.ReplayError.{ReplayError}
-use Rattle.rvm_recorder.specs.declared.error.ReplayError.TheVariants as replay_error
+use Rattle.rvm_journal.specs.declared.replay_error.ReplayError.{ReplayError}
+use Rattle.rvm_journal.specs.declared.replay_error.ReplayError.TheVariants as replay_error
 use Rattle.rvm_recorder.specs.History.{Recording}
 use Rattle.rvm_journal.specs.declared.noted.Noted.{Noted}
 use Rattle.rvm_journal.specs.declared.noted.Noted.TheVariants.{Turns, Command as Commanded, Came, Met, End}
 use Rattle.rvm_journal.specs.declared.replay.JournalFault.{JournalFault}
 use Rattle.rvm_journal.specs.declared.replay.JournalFault.TheVariants as fault
 use Rattle.rvm_journal.specs.Headers.{first_header, header_at, header_in_line}
-use Rattle.rvm_recorder.specs.declared.log.Meeting.{Meeting}
+use Rattle.rvm_station.specs.declared.log.Meeting.{Meeting}
 use Rattle.rvm_journal.specs.Noting.{bytes_noted, came_noted, command_in, end_noted, events_of, frame_noted, meeting_in, noted_by, noted_of, run_if, turns_noted}
 use Rattle.rvm_journal.specs.Replaying.{AreFewer, HasHarts, IsJournalFault, IsLineFault, IsReplayedTo, IsRoomFault, IsSpent, IsWanted, LacksHeader, LacksRoom, first_of, left_of, noted_at}
 use Rattle.rvm_journal.specs.Told.{Told, at_header, digest_after, digest_behind, header_told, mark, no_digest, text_in, told_by, told_in, told_of}

@@ -4,7 +4,7 @@ use Rattle.std.proofs.lemmas.List.{append-nil}
 use native.Mathlib.Nat.{add-mod, mod-add-mod}
 use Rattle.rvm_message.specs.declared.event.HostEvent.{HostEvent}
 use Rattle.rvm_message.specs.Exchanges.{step_of_hart}
-use Rattle.rvm_recorder.specs.Logs.{steps_from}
+use Rattle.rvm_station.specs.Logs.{steps_from}
 use Rattle.rvm_journal.specs.Written.{with_more}
 
 -- the turn after one of the same hart is one of the same hart

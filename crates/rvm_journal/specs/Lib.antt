@@ -4,6 +4,7 @@ pub mod Told
 pub mod Meetings
 pub mod Written
 pub mod Headers
+pub mod Recorders
 pub mod Replaying
 pub mod Whole
 pub mod Letters

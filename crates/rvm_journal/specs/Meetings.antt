@@ -1,7 +1,7 @@
 -- The other hosts that a host met, as the lines of its journal tell.
 use Rattle.std.specs.Prelude.{⊤, ◌⊎◌, ℕ, List, [], ◌∷◌, Option, IfSome, IsSomeAnd}
 use Rattle.rvm_debug.specs.Words.{words}
-use Rattle.rvm_recorder.specs.declared.log.Meeting.{Meeting}
+use Rattle.rvm_station.specs.declared.log.Meeting.{Meeting}
 use Rattle.rvm_journal.specs.Noting.{meeting_in}
 use Rattle.rvm_journal.specs.Told.{text_in}
 

@@ -22,8 +22,8 @@ use Rattle.rvm_core.specs.declared.world_line.Asked.TheVariants as asked
 use Rattle.rvm_core.specs.declared.world_line.WorldLine.{WorldLine}
 use Rattle.rvm_core.specs.declared.world_line.WorldLine.TheVariants as line
 use Rattle.rvm_core.specs.WorldLines.{world_line_of}
-use Rattle.rvm_recorder.specs.declared.log.Meeting.{Meeting}
-use Rattle.rvm_recorder.specs.Logs.{steps_from}
+use Rattle.rvm_station.specs.declared.log.Meeting.{Meeting}
+use Rattle.rvm_station.specs.Logs.{steps_from}
 use Rattle.rvm_journal.specs.Numbers.{field}
 use Rattle.rvm_journal.specs.declared.noted.Noted.{Noted}
 use Rattle.rvm_journal.specs.declared.noted.Noted.TheVariants.{Turns, Command as Commanded, Came, Met, End}

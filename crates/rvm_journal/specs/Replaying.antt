@@ -4,10 +4,10 @@ use Rattle.std.specs.Fmt.{decimal}
 use Rattle.std.specs.Str.{bytes_eq}
 use Rattle.rvm_debug.specs.Words.{lines}
 use Rattle.rvm_message.specs.declared.event.HostEvent.{HostEvent}
-use Rattle.rvm_recorder.specs.declared.error.ReplayError.{ReplayError}
-use Rattle.rvm_recorder.specs.declared.error.ReplayError.TheVariants as replay_error
+use Rattle.rvm_journal.specs.declared.replay_error.ReplayError.{ReplayError}
+use Rattle.rvm_journal.specs.declared.replay_error.ReplayError.TheVariants as replay_error
 use Rattle.rvm_recorder.specs.History.{Recording, count_of}
-use Rattle.rvm_recorder.specs.Recorders.{Records, room_of}
+use Rattle.rvm_journal.specs.Recorders.{Records, room_of}
 use Rattle.rvm_journal.specs.declared.noted.Noted.{Noted}
 use Rattle.rvm_journal.specs.declared.noted.Noted.TheVariants.{Turns, Command as Commanded, Came, Met, End}
 use Rattle.rvm_journal.specs.declared.replay.JournalFault.{JournalFault}

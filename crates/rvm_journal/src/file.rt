@@ -2,7 +2,7 @@
 
 ghost use Rattle.std.specs.Prelude.{◌≡◌, ◌++◌, ◌∷◌, [], None, Some, IfOk, OnOk, codes, length, true};
 ghost use Rattle.std.specs.List.{list_all};
-ghost use Rattle.rvm_recorder.specs.Logs.{IsEmpty, steps_from};
+ghost use Rattle.rvm_station.specs.Logs.{IsEmpty, steps_from};
 ghost use Rattle.rvm_journal.specs.Noting.{events_of, noted_of};
 ghost use Rattle.rvm_journal.specs.Told.{mark};
 ghost use Rattle.rvm_journal.specs.Written.{Keeping, Puts, is_no_feed, kept_of, waiting, with_more};
@@ -14,8 +14,8 @@ use crate::run::Run;
 use crate::texts::{END, came_text, command_text, met_text, turns_text};
 use rvm_frame::Frame;
 use rvm_message::Command;
-use rvm_recorder::Meeting;
 use rvm_refusal::LinkFault;
+use rvm_station::Meeting;
 use std::alloc::Global;
 use std::io::Write;
 use std::marker::Model;

@@ -1,11 +1,12 @@
 //! Journals of hosts in files: a line for each event of a host, or for a run of turns, chained by SHA-256. What a writer
 //! wrote tells a reader the events of the host, in their order.
 //!
-//! Stands on `rvm_core` for the lines of commands, on `rvm_frame` for frames, on `rvm_recorder` for the log
-//! of a host and for the host that does again what a journal tells, and on `sha2` and `hex`. It must not know files,
+//! Stands on `rvm_core` for the lines of commands, on `rvm_frame` for frames, on `rvm_station` for the log of a host, on
+//! `rvm_recorder` for the host that does again what a journal tells, and on `sha2` and `hex`. It must not know files,
 //! processes or threads.
 //!
-//! To be read in this order: `run`, `numbers`, `noted`, `digest`, `texts`, `header`, `file`, `writer`, `whole`, `replay`, `meeting`; `letter`.
+//! To be read in this order: `run`, `numbers`, `noted`, `digest`, `texts`, `header`, `file`, `writer`, `whole`,
+//! `replay_error`, `recorder`, `replay`, `meeting`; `letter`.
 #![tactic(auto)]
 
 mod digest;
@@ -15,7 +16,9 @@ mod letter;
 mod meeting;
 mod noted;
 mod numbers;
+mod recorder;
 mod replay;
+mod replay_error;
 mod run;
 mod texts;
 mod whole;
@@ -26,7 +29,9 @@ pub use header::{Header, Image};
 pub use letter::letter_of;
 pub use meeting::meeting_of;
 pub use noted::Noted;
+pub use recorder::Recorder;
 pub use replay::{JournalFault, is_whole, read_header, replay_journal};
+pub use replay_error::ReplayError;
 pub use run::Run;
 pub use whole::whole_size;
 pub use writer::JournalWriter;

@@ -6,7 +6,7 @@ ghost use Rattle.rvm_journal.specs.Meetings.{meeting_of};
 use crate::noted::meeting_in;
 use crate::replay::text_in;
 use rvm_debug::Words;
-use rvm_recorder::Meeting;
+use rvm_station::Meeting;
 
 /// The meeting that a line of a journal tells, which comes without its line feed; none if it tells none. Looks at no
 /// digest.

@@ -19,7 +19,7 @@ use rvm_core::{Asked, WorldLine};
 use rvm_debug::{HexText, Line, Words, numeral, one_number};
 use rvm_frame::{Frame, ReadFault, Received, read_frame};
 use rvm_message::Command;
-use rvm_recorder::Meeting;
+use rvm_station::Meeting;
 use std::alloc::{AllocError, Global};
 
 /// The version of the streams between the hosts of a world whose hosts keep journals in files.
@@ -85,7 +85,7 @@ impl Noted {
 
     /// What tells the first of the events that this tells: as many as are wanted, which is one or more, or all.
     #[tactic(auto, using(crate::proofs::Replayed::first_none, crate::proofs::Replayed::first_one))]
-    pub(crate) fn up_to(self, most: Option<u32>) -> Noted
+    pub(crate) fn up_to(self, most: Option<u64>) -> Noted
         requires { IsWanted most }
         ensures events { events_of result ≡ first_of most (events_of self) }
         ensures harts { HasHarts self → HasHarts result }

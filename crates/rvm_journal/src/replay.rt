@@ -1,9 +1,9 @@
-//! Has a recorded host do what a journal tells.
+//! Has a host do again what a journal tells.
 
 ghost use Rattle.std.specs.Prelude.{◌≡◌, ◌+◌, ◌%◌, ◌<◌, ◌≤◌, ◌∷◌, [], false, length, take, true, IfErr, IfOk, IfSome, MatchOption, None, OnErr, OnOk, Some};
 ghost use Rattle.std.specs.Str.{bytes_eq};
-ghost use Rattle.rvm_recorder.specs.Logs.{steps_from};
-ghost use Rattle.rvm_recorder.specs.Recorders.{HasMore, IsFull, Records, room_of};
+ghost use Rattle.rvm_station.specs.Logs.{steps_from};
+ghost use Rattle.rvm_journal.specs.Recorders.{HasMore, IsFull, Records, room_of};
 ghost use Rattle.rvm_debug.specs.Words.{lines};
 ghost use Rattle.rvm_message.specs.declared.event.HostEvent.TheVariants.{Came};
 ghost use Rattle.rvm_journal.specs.Headers.{IsRanged, header_at, header_in_line};
@@ -14,12 +14,13 @@ ghost use Rattle.rvm_journal.specs.Told.{header_told, mark, text_in};
 use crate::digest::{LineDigest, MARK};
 use crate::header::Header;
 use crate::noted::Noted;
+use crate::recorder::Recorder;
+use crate::replay_error::ReplayError;
 use crate::run::Run;
 use crate::texts::END;
 use rvm_debug::split_line;
 use rvm_frame::Frame;
 use rvm_message::{HostEvent, Shared};
-use rvm_recorder::{Recorder, ReplayError};
 use std::alloc::{AllocError, Global};
 use std::fmt;
 
@@ -63,7 +64,7 @@ pub fn replay_journal<R: Recorder>(
     hosts: u8,
     host: u8,
     bytes: &[u8],
-    most: Option<u32>,
+    most: Option<u64>,
     recorder: &mut R,
 ) -> Result<(), JournalFault>
     ensures told { OnOk result (IsReplayedTo most hosts host bytes.now (R.recording recorder.old)
@@ -95,7 +96,7 @@ pub fn replay_journal<R: Recorder>(
 }
 
 /// Whether another event is wanted.
-fn is_wanted(left: Option<u32>) -> bool
+fn is_wanted(left: Option<u64>) -> bool
     ensures wanted { result ≡ true → IsWanted left }
     ensures none { result ≡ false → left ≡ Some 0 }
 {
@@ -228,9 +229,9 @@ pub(crate) fn text_in(line: &[u8]) -> &[u8]
 fn do_first<R: Recorder>(
     alloc: Global,
     noted: Noted,
-    left: Option<u32>,
+    left: Option<u64>,
     recorder: &mut R,
-) -> Result<Option<u32>, JournalFault>
+) -> Result<Option<u64>, JournalFault>
     requires harts { HasHarts noted }
     requires wanted { IsWanted left }
     ensures done { OnOk result (Records (R.recording recorder.old) (first_of left (events_of noted))
@@ -250,11 +251,11 @@ fn do_first<R: Recorder>(
 }
 
 /// How many events are wanted after those that a line tells.
-fn left_after(left: Option<u32>, noted: &Noted) -> Option<u32>
+fn left_after(left: Option<u64>, noted: &Noted) -> Option<u64>
     ensures { result ≡ left_of left (events_of noted.now) }
 {
     match left {
-        Some(left) => Some(left.saturating_sub(noted.count())),
+        Some(left) => Some(left.saturating_sub(u64::from(noted.count()))),
         None => None,
     }
 }

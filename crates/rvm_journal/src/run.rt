@@ -1,7 +1,7 @@
 //! Consecutive turns of harts.
 
 ghost use Rattle.std.specs.Prelude.{◌≡◌, ◌%◌, ◌+◌, ◌++◌, ◌<◌, ◌≤◌, IfSome};
-ghost use Rattle.rvm_recorder.specs.Logs.{steps_from};
+ghost use Rattle.rvm_station.specs.Logs.{steps_from};
 ghost use Rattle.rvm_journal.specs.Replaying.{first_of};
 
 /// Consecutive turns: so many steps of 1 to 8 harts, one after the other, the first by hart `first`.
@@ -46,7 +46,7 @@ impl Run {
 
     /// The first of these turns: at most this many, or all.
     #[tactic(auto, using(crate::proofs::Runs::first_turns))]
-    pub(crate) fn up_to(self, most: Option<u32>) -> Run
+    pub(crate) fn up_to(self, most: Option<u64>) -> Run
         ensures turns { steps_from result.first result.harts result.count
             ≡ first_of most (steps_from self.first self.harts self.count) }
         ensures harts { result.harts ≡ self.harts }
@@ -55,7 +55,7 @@ impl Run {
             Some(most) => Run {
                 first: self.first,
                 harts: self.harts,
-                count: self.count.min(most),
+                count: u64::from(self.count).min(most) as u32,
             },
             None => self,
         }

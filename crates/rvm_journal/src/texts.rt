@@ -5,8 +5,8 @@ use crate::run::Run;
 use rvm_core::{Event, write_event};
 use rvm_frame::{Addressed, Frame, frame_bytes, has_spelling};
 use rvm_message::Command;
-use rvm_recorder::Meeting;
 use rvm_refusal::LinkFault;
+use rvm_station::Meeting;
 use std::alloc::{AllocError, Global};
 use std::io::Write;
 

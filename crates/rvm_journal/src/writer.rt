@@ -2,7 +2,7 @@
 
 ghost use Rattle.std.specs.Prelude.{◌∷◌, [], IfOk};
 ghost use Rattle.std.specs.Option.{option_and_then};
-ghost use Rattle.rvm_recorder.specs.Logs.{IsEmpty, KeepsOn, steps_from};
+ghost use Rattle.rvm_station.specs.Logs.{IsEmpty, KeepsOn, steps_from};
 ghost use Rattle.rvm_journal.specs.Written.{kept_of};
 ghost use Rattle.rvm_message.specs.declared.event.HostEvent.TheVariants.{Came, Do};
 
@@ -10,8 +10,8 @@ use crate::file::JournalFile;
 use crate::header::{Header, header_text};
 use rvm_frame::Frame;
 use rvm_message::Command;
-use rvm_recorder::{EventLog, Meeting};
 use rvm_refusal::LinkFault;
+use rvm_station::{EventLog, Meeting};
 use std::alloc::Global;
 use std::io::Write;
 use std::marker::Model;

@@ -1,7 +1,5 @@
 -- Consecutive records, and that they are read in one way only.
-use Rattle.std.proofs.Common.{◌≡◌, ◌∙◌, ap, arith, refl, subst, sym}
-use Rattle.std.proofs.Common.{ℕ, ◌≤◌, ◌<◌, ◌^◌, List, [], ◌∷◌, ◌++◌, append-nil, append_assoc, drop, length, take}
-use Rattle.std.proofs.Common.{Option, None, Some}
+use Rattle.std.proofs.Common.{◌≡◌, ◌∙◌, ap, arith, refl, subst, sym, ℕ, ◌≤◌, ◌<◌, ◌^◌, List, [], ◌∷◌, ◌++◌, append-nil, append_assoc, drop, length, take, Option, None, Some}
 use Rattle.std.proofs.lemmas.List.{drop_at, flat_map_more, nil_from_length, take_at}
 use Rattle.std.proofs.lemmas.List.Elements.{All-append, All-cons, All-head, All-nil, All-tail}
 use Rattle.std.proofs.lemmas.List.Concat.{flat_map-append}
@@ -11,8 +9,7 @@ use Rattle.byteorder.specs.Endian.{little_bytes}
 use Rattle.rvm_codec.specs.Numbers.{number_at}
 use Rattle.rvm_codec.proofs.Numbers.{number_again}
 use Rattle.rvm_codec.proofs.Steps.{some_is}
-use Rattle.rvm_link.specs.Records.{Answer, Data, Question, Record, bytes_in, data_in, data_of, record_bytes}
-use Rattle.rvm_link.specs.Records.{Carries, Fits}
+use Rattle.rvm_link.specs.Records.{Answer, Data, Question, Record, bytes_in, data_in, data_of, record_bytes, Carries, Fits}
 use Rattle.rvm_link.proofs.Pieces.{both_added}
 
 -- nothing was written

@@ -3,3 +3,8 @@ pub mod Errors
 pub mod Reads
 pub mod Waiting
 pub mod Streams
+pub mod Peers
+pub mod Hmac
+pub mod Openings
+pub mod Facts
+pub mod Greetings

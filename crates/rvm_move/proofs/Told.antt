@@ -19,7 +19,8 @@ use Rattle.rvm_precopy.specs.declared.policy.Policy.{Policy}
 use Rattle.std.specs.Prelude.{IfSome}
 use Rattle.rvm_cell.specs.Endings.{last_of}
 use Rattle.rvm_cell.specs.Heard.{IsHeardOf, IsReceived, IsReceiverEnd, frames_in}
-use Rattle.rvm_cell.specs.Work.{AreOfCopier, AreOfReceiver, IsOfCopier, IsOfReceiver, IsWork}
+use Rattle.rvm_cell.specs.Work.{AreOfCopier, AreOfReceiver, IsOfReceiver, IsWork}
+use Rattle.rvm_station.specs.Movers.{IsOfCopier}
 use Rattle.rvm_cell.specs.declared.end.WorkEnd.{WorkEnd}
 
 -- WHAT IS GIVEN BACK

@@ -15,7 +15,8 @@ use Rattle.rvm_cell.specs.declared.end.WorkEnd.{WorkEnd}
 use Rattle.rvm_cell.specs.declared.end.WorkEnd.TheVariants.{NoThread}
 use Rattle.rvm_cell.specs.Copiers.{IsCopied}
 use Rattle.rvm_cell.specs.Heard.{IsReceived}
-use Rattle.rvm_cell.specs.Work.{IsOfCopier, IsOfReceiver}
+use Rattle.rvm_cell.specs.Work.{IsOfReceiver}
+use Rattle.rvm_station.specs.Movers.{IsOfCopier}
 
 -- with some seats, these receipts account for all entries of a journal
 pub record AreAll (entries : List PlainEntry) (receipts : List PlainReceipt) : Type 0 where

@@ -6,3 +6,6 @@ pub mod Answers
 pub mod Ended
 pub mod Orders
 pub mod Plans
+pub mod FirstWorld
+pub mod ScriptRefusals
+pub mod ScriptEnds

@@ -1,6 +1,6 @@
 //! Two threads, one of which borrows what it changes.
 
-use rvm_cell::Task;
+use rvm_station::Task;
 use std::thread;
 use std::thread::Threads;
 

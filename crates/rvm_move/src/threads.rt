@@ -14,11 +14,12 @@ use crate::plan::Plan;
 use crate::turns::Turns;
 use rvm_cell::{
     CopyPlan, Gate, HartsWorked, Hosts, Side, WorkEnd, Worked, Worker, copier_worker,
-    receiver_worker, take_back,
+    receiver_worker,
 };
 use rvm_link::{Link, Outgoing};
 use rvm_mem::PagedMemory;
 use rvm_recorder::{Seat, Seating, SharedHost};
+use rvm_station::take_back;
 use std::alloc::Global;
 use std::io::Write;
 use std::sync::Wait;

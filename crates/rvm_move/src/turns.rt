@@ -7,9 +7,10 @@ ghost use Rattle.rvm_cell.specs.Work.{IsWork};
 ghost use Rattle.rvm_cell.specs.declared.end.WorkEnd.TheVariants.{LinkFault};
 
 use crate::plan::Plan;
-use rvm_cell::{Gate, HartsWorked, Hosts, Task, hart_worker};
+use rvm_cell::{Gate, HartsWorked, Hosts, hart_worker};
 use rvm_mem::PagedMemory;
 use rvm_recorder::{Seat, Seating};
+use rvm_station::Task;
 use std::alloc::Global;
 use std::io::Write;
 use std::sync::Wait;

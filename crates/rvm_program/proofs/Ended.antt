@@ -1,6 +1,5 @@
 -- How commands end that were given their files.
-use Rattle.std.proofs.Common.{◌≡◌, ◌⊎◌, ◌∙◌, true, ℕ, zero, suc, List, [], ◌++◌, Option, None, Some, Result, Ok, Err, codes, inl, inr}
-use Rattle.std.proofs.Common.{arith, refl, subst, sym, take}
+use Rattle.std.proofs.Common.{◌≡◌, ◌⊎◌, ◌∙◌, true, ℕ, zero, suc, List, [], ◌++◌, Option, None, Some, Result, Ok, Err, codes, inl, inr, arith, refl, subst, sym, take}
 use Rattle.std.specs.Borrow.{Bor}
 use Rattle.std.specs.Prelude.{◌≢◌, OnErr}
 use Rattle.std.specs.Result.{IfOk}
@@ -17,7 +16,7 @@ use Rattle.rvm_command.specs.declared.refused.Refused.{Refused}
 use Rattle.rvm_command.specs.declared.run.Ended.{Ended}
 use Rattle.rvm_command.specs.Command.{end_text, image_of, refused_text}
 use Rattle.rvm_command.specs.Ends.{HasStatus, IsAsmEnd, IsDebugEnd, IsListEnd, IsRunEnd, RunHasStatus, run_status}
-use Rattle.rvm_cell.specs.declared.host_harts.HartsEnd.{HartsEnd}
+use Rattle.rvm_station.specs.declared.host_harts.HartsEnd.{HartsEnd}
 use Rattle.rvm_host_command.specs.Hosted.{IsHostedTo}
 use Rattle.rvm_host_command.specs.Live.{IsLiveEnd, IsLiveTo, live_status}
 use Rattle.rvm_move.specs.Ended.{IsMoved, IsNotMoved, IsUntold}
@@ -25,7 +24,7 @@ use Rattle.rvm_move.specs.Orders.{IsAudited, IsNotAudited}
 use Rattle.rvm_program.specs.Ended.{AsmEnded, AuditEnded, DebugEnded, DisEnded, HasHosted, HasRunTo, HostEnded, IsNamedFile, LiveEnded, MoveEnded, RunEnded, ScriptEnded, TellEnded, ToTell, Written, report_name, trace_name, written}
 use Rattle.rvm_command.proofs.Inputs.{ends_so}
 use Rattle.rvm_files.specs.Files.{IsApart, IsCreated, IsFile, IsFirst, IsFirstInput, IsImage, IsInput, IsOpened, Named, symbols_name}
-use Rattle.rvm_command.specs.ScriptEnds.{IsScriptEnd}
+use Rattle.rvm_move.specs.ScriptEnds.{IsScriptEnd}
 
 -- neither 0 nor 1
 abbrev IsMore : ℕ → Type 0

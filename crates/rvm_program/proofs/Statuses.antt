@@ -26,8 +26,8 @@ use Rattle.rvm_command.specs.Seeds.{IsOrdersEnd, OrdersHaveStatus}
 use Rattle.rvm_command.specs.declared.orders_command.FailedRun.{FailedRun}
 use Rattle.rvm_command.specs.Ends.{RunHasStatus, run_status}
 use Rattle.rvm_command.specs.Refusals.{refused}
-use Rattle.rvm_cell.specs.declared.host_harts.HartsEnd.{HartsEnd}
-use Rattle.rvm_cell.specs.declared.host_harts.HartsEnd.TheVariants.{ConsoleFault, Halted, Spent, Stopped}
+use Rattle.rvm_station.specs.declared.host_harts.HartsEnd.{HartsEnd}
+use Rattle.rvm_station.specs.declared.host_harts.HartsEnd.TheVariants.{ConsoleFault, Halted, Spent, Stopped}
 use Rattle.rvm_host_command.specs.Live.{live_status}
 use Rattle.rvm_move.specs.Ended.{ended_of, status_asked}
 use Rattle.rvm_files.specs.Files.{IsUnread, Named}

@@ -38,7 +38,7 @@ use Rattle.rvm_move.specs.Ended.{IsMoved, IsNotMoved}
 use Rattle.rvm_move.specs.Orders.{IsAudited, IsNotAudited}
 use Rattle.rvm_files.specs.Files.{IsApart, IsCreated, IsFile, IsFileRefusal, IsFirstInput, IsImage, IsInput, IsOpened, IsRefusedFile, IsUnread, Named, file_text, symbols_name}
 use Rattle.rvm_refusal.specs.declared.refusal.Refusal.{Refusal}
-use Rattle.rvm_command.specs.ScriptEnds.{IsScriptEnd}
+use Rattle.rvm_move.specs.ScriptEnds.{IsScriptEnd}
 
 -- what a writer held before a command and after it, if that is known
 pub record Written : Type 0 where

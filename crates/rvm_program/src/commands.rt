@@ -12,7 +12,7 @@ ghost use Rattle.std.specs.Io.KnownBytes.{Appends};
 ghost use Rattle.rvm_command.specs.declared.refused.Refused.{Refused};
 ghost use Rattle.rvm_command.specs.declared.run.Ended.{Ended};
 ghost use Rattle.rvm_command.specs.Ends.{RunHasStatus};
-ghost use Rattle.rvm_cell.specs.declared.host_harts.HartsEnd.{HartsEnd};
+ghost use Rattle.rvm_station.specs.declared.host_harts.HartsEnd.{HartsEnd};
 ghost use Rattle.rvm_host_command.specs.Hosted.{IsHostedTo};
 ghost use Rattle.rvm_host_command.specs.Live.{IsLiveEnd, IsLiveTo};
 ghost use Rattle.rvm_program.specs.Ended.{AsmEnded, AuditEnded, DebugEnded, DisEnded, HasRunTo, HostEnded, IsNamedFile, LiveEnded, MoveEnded, RunEnded, ScriptEnded, TellEnded, ToTell, report_name, trace_name, written};
@@ -25,12 +25,10 @@ use rvm_arguments::{
     MoveArguments, Report, ReportArguments, RunArguments, ScriptArguments, TellArguments,
     TraceArguments,
 };
-use rvm_cell::{InputQueue, read_input as read_console_input};
 use rvm_command::asm_command::asm_command;
 use rvm_command::debug_command::debug_command;
 use rvm_command::dis_command::dis_command;
 use rvm_command::run_command::{RunFiles, run_command};
-use rvm_command::script_command::script_command;
 use rvm_files::{
     MAX_FILE_SIZE, NamedFiles, begin_image, check_image, keep_apart, keep_read, read_beginning,
     read_image, read_whole, refusal_of,
@@ -41,7 +39,9 @@ use rvm_host_command::tell_command::{LOST, connect_to, tell_command};
 use rvm_mem::PagedMemory;
 use rvm_move::audit_command::audit_command;
 use rvm_move::move_command::move_command;
+use rvm_move::script_command::script_command;
 use rvm_refusal::{LinkFault, Refusal};
+use rvm_station::{InputQueue, read_input as read_console_input};
 use std::alloc::{AllocError, Global};
 use std::io::{BufRead, BufReader, BufWriter, Read, Sink, Write};
 use std::net::{Net, OpenStream};

@@ -2,9 +2,6 @@ pub mod StepRuns
 pub mod Spans
 pub mod InRounds
 pub mod Replays
-pub mod Recorders
-pub mod Reopening
-pub mod Pasts
 pub mod Retired
 pub mod Slices
 pub mod Slicing
@@ -19,4 +16,3 @@ pub mod Tellings
 pub mod RoundsTold
 pub mod SharedSends
 pub mod Flat
-pub mod Logs

@@ -2,8 +2,6 @@
 use Rattle.std.specs.Prelude.{◌≡◌, ℕ, ◌+◌, ◌<◌, ◌≤◌}
 use Rattle.rvm_recorder.specs.declared.error.RecordError.{RecordError}
 use Rattle.rvm_recorder.specs.declared.error.RecordError.TheVariants as record_error
-use Rattle.rvm_recorder.specs.declared.error.ReplayError.{ReplayError}
-use Rattle.rvm_recorder.specs.declared.error.ReplayError.TheVariants as replay
 use Rattle.rvm_recorder.specs.declared.error.SliceError.{SliceError}
 use Rattle.rvm_recorder.specs.declared.error.SliceError.TheVariants as slice_error
 use Rattle.rvm_refusal.specs.declared.refusal.Refusal.{Refusal}
@@ -19,11 +17,6 @@ abbrev pub slice_refusal : SliceError → Refusal
 slice_refusal slice_error.OutOfRange = OutOfRange
 slice_refusal slice_error.OutOfMemory = OutOfMemory
 slice_refusal (slice_error.RecorderFull n) = RecorderFull
-
--- why an event is not done again that is not recorded
-abbrev pub replay_error : RecordError → ReplayError
-replay_error record_error.OutOfMemory = replay.OutOfMemory
-replay_error (record_error.RecorderFull n) = replay.TooMany n
 
 -- an event is refused as full exactly if a journal of this many entries takes no more
 abbrev pub IsRecordError : RecordError → (count capacity : ℕ) → Type 0

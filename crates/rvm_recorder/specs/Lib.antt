@@ -5,8 +5,6 @@ pub mod Passing
 pub mod Told
 pub mod Replay
 pub mod History
-pub mod Recorders
-pub mod Past
 pub mod Reopening
 pub mod Keeping
 pub mod Errors
@@ -18,4 +16,3 @@ pub mod Telling
 pub mod Calls
 pub mod Close
 pub mod Closing
-pub mod Logs

@@ -1,10 +1,9 @@
 //! Why an event or a slice was not recorded.
 
 ghost use Rattle.std.specs.Prelude.{◌≡◌};
-ghost use Rattle.rvm_recorder.specs.Errors.{record_refusal, replay_error, slice_refusal};
+ghost use Rattle.rvm_recorder.specs.Errors.{record_refusal, slice_refusal};
 
 use rvm_refusal::Refusal;
-use std::alloc::AllocError;
 use thiserror::Error;
 
 /// Why an event was not recorded, or no room was made for more entries. Nothing changed.
@@ -16,17 +15,6 @@ pub enum RecordError {
     /// The journal is full, or has fewer free places than were asked for; it takes this many entries.
     #[error("the journal takes no more than {0} entries")]
     RecorderFull(u32),
-}
-
-/// Why an event was not done again. Nothing changed.
-#[derive(Clone, Copy, Debug, PartialEq, Eq, Error)]
-pub enum ReplayError {
-    /// Memory ran out.
-    #[error("out of memory")]
-    OutOfMemory,
-    /// There are more events than this, and no more can be counted.
-    #[error("more than {0} events")]
-    TooMany(u64),
 }
 
 /// Why no step of a slice was recorded. Nothing changed.
@@ -62,27 +50,6 @@ impl From<SliceError> for Refusal {
             SliceError::OutOfRange => Refusal::OutOfRange,
             SliceError::OutOfMemory => Refusal::OutOfMemory,
             SliceError::RecorderFull(_) => Refusal::RecorderFull,
-        }
-    }
-}
-
-impl From<AllocError> for ReplayError {
-    ghost use Rattle.rvm_recorder.specs.declared.error.ReplayError.TheVariants.{OutOfMemory};
-
-    ghost from_gives = { λ _ why. why ≡ OutOfMemory };
-
-    fn from(_refused: AllocError) -> ReplayError {
-        ReplayError::OutOfMemory
-    }
-}
-
-impl From<RecordError> for ReplayError {
-    ghost from_gives = { λ why told. told ≡ replay_error why };
-
-    fn from(why: RecordError) -> ReplayError {
-        match why {
-            RecordError::OutOfMemory => ReplayError::OutOfMemory,
-            RecordError::RecorderFull(most) => ReplayError::TooMany(u64::from(most)),
         }
     }
 }

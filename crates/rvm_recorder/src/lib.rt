@@ -6,8 +6,7 @@
 //!
 //! To be read in this order: `frame_bytes`, `entry`, `steps`, `rounds`, `item`, `left`, `run`, `journal`, `error`,
 //! `recorded`, `slice`; then `seat`, `receipt`, `step_receipts`, `round_receipts`, `items`, `locked`, `shared`,
-//! `closing`; for hosts that do again what a journal tells, `recorder`, `observer`, `past`, `replayed`. What others keep of
-//! a host's events has a module of its own: `log`.
+//! `closing`.
 #![tactic(auto)]
 
 mod closing;
@@ -19,13 +18,8 @@ mod items;
 mod journal;
 mod left;
 mod locked;
-mod log;
-mod observer;
-mod past;
 mod receipt;
 mod recorded;
-mod recorder;
-mod replayed;
 mod round_receipts;
 mod rounds;
 mod run;
@@ -37,20 +31,15 @@ mod steps;
 
 pub use closing::{CloseError, CloseKind, close};
 pub use entry::Entry;
-pub use error::{RecordError, ReplayError, SliceError};
+pub use error::{RecordError, SliceError};
 pub use frame_bytes::FrameBytes;
 pub use item::{Item, ItemRef, joined};
 pub use items::{ReceiptItem, push_receipt};
 pub use journal::Journal;
 pub use left::{Left, Told, exchange_in, hart_behind, row_at};
 pub use locked::Locked;
-pub use log::{EventLog, Meeting, NoLog};
-pub use observer::Observer;
-pub use past::Past;
 pub use receipt::Receipt;
 pub use recorded::{MAX_CAPACITY, Recorded};
-pub use recorder::Recorder;
-pub use replayed::Replayed;
 pub use round_receipts::RoundReceipts;
 pub use rounds::Rounds;
 pub use run::StepRun;

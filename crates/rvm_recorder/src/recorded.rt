@@ -116,7 +116,7 @@ impl<M: PagedMemory + Drop> Recorded<M> {
     }
 
     /// Forgets the entries of the journal, which begins anew with the host as it is. The room for more entries stays.
-    pub(crate) fn reopen(&mut self)
+    pub fn reopen(&mut self)
         ensures { IsReopened self.old self.new }
     {
         let Recorded {

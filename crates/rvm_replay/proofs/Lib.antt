@@ -1,5 +1,6 @@
 mod OnlyOne
 mod AllHosts
+pub mod Behind
 mod HostJournals
 mod JournalFaults
 pub mod OtherMeetings

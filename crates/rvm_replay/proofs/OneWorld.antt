@@ -18,8 +18,7 @@ use Rattle.rvm_journal.specs.declared.header.Image.{Image}
 use Rattle.rvm_replay.specs.declared.file.JournalFile.{JournalFile}
 use Rattle.rvm_replay.specs.declared.headers.Wanted.TheVariants.{OfHost, WithGuest}
 use Rattle.rvm_replay.specs.Audited.{AreReplayed, HasDone, HasOneGuest, IsHostBy, IsOnlyOne, is_wanted, journals_in}
-use Rattle.rvm_replay.specs.Journals.{header_number}
-use Rattle.rvm_replay.specs.Journals.{IsGuestNamed}
+use Rattle.rvm_replay.specs.Journals.{header_number, IsGuestNamed}
 
 -- TESTS
 

@@ -4,7 +4,7 @@ use Rattle.std.specs.Prelude.{IsSomeAnd, slice_get}
 use Rattle.rvm_debug.specs.Words.{lines}
 use Rattle.rvm_journal.specs.declared.header.Header.{Header}
 use Rattle.rvm_journal.specs.Meetings.{SomeMeeting, meeting_of}
-use Rattle.rvm_recorder.specs.declared.log.Meeting.{Meeting}
+use Rattle.rvm_station.specs.declared.log.Meeting.{Meeting}
 use Rattle.rvm_replay.specs.declared.file.FileFault.{FileFault}
 use Rattle.rvm_replay.specs.declared.file.FileFault.TheVariants as fault
 use Rattle.rvm_replay.specs.declared.file.JournalFile.{JournalFile}

@@ -15,8 +15,8 @@ use Rattle.rvm_journal.specs.Replaying.{AreFirstTold, IsJournalFault, IsReplayed
 use Rattle.rvm_message.specs.declared.event.HostEvent.{HostEvent}
 use Rattle.rvm_recorder.specs.Entries.{PlainEntry}
 use Rattle.rvm_recorder.specs.History.{Recording, count_of}
-use Rattle.rvm_recorder.specs.Recorders.{Records, events_in, room_of}
-use Rattle.rvm_recorder.specs.Reopening.{most_replayed}
+use Rattle.rvm_journal.specs.Recorders.{Records, events_in, room_of}
+use Rattle.rvm_replay.specs.Behind.{most_replayed}
 use Rattle.rvm_recorder.specs.Replay.{IsReplay as AreAnswers}
 use Rattle.rvm_refusal.specs.declared.refusal.Refusal.TheVariants.{LinkFault}
 use Rattle.rvm_replay.specs.declared.file.FileFault.{FileFault}

@@ -9,7 +9,7 @@ use Rattle.rvm_command.specs.Refusals.{refused, refused_of_script}
 use Rattle.rvm_debug.specs.declared.script.ScriptError.{ScriptError}
 use Rattle.rvm_journal.specs.Headers.{header_at}
 use Rattle.rvm_recorder.specs.History.{Recording, count_of}
-use Rattle.rvm_recorder.specs.Reopening.{most_replayed}
+use Rattle.rvm_replay.specs.Behind.{most_replayed}
 use Rattle.rvm_refusal.specs.declared.refusal.Refusal.TheVariants.{LinkFault}
 use Rattle.rvm_replay.specs.Consoles.{console_of}
 use Rattle.rvm_replay.specs.FileFaults.{IsFileFault, fault_line}

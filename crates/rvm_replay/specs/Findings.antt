@@ -11,7 +11,7 @@ use Rattle.rvm_core.specs.declared.event.Event.{Event}
 use Rattle.rvm_journal.specs.Headers.{header_at}
 use Rattle.rvm_journal.specs.Replaying.{is_whole}
 use Rattle.rvm_recorder.specs.History.{History, Recording, count_of}
-use Rattle.rvm_recorder.specs.Reopening.{most_replayed}
+use Rattle.rvm_replay.specs.Behind.{most_replayed}
 use Rattle.rvm_command.specs.Command.{refused_text}
 use Rattle.rvm_refusal.specs.declared.refusal.Refusal.TheVariants.{LinkFault, NoOrder, OutOfMemory}
 use Rattle.rvm_replay.specs.Audited.{AreAudited, AreReplayed, IsOrdered, is_wanted, journals_in}

@@ -7,7 +7,7 @@ use Rattle.rvm_guest.specs.Valid.{is_valid}
 use Rattle.rvm_command.specs.GuestFiles.{IsGuestIn}
 use Rattle.rvm_host.specs.Hosts.{PlainHost, new_host}
 use Rattle.rvm_recorder.specs.History.{Recording}
-use Rattle.rvm_recorder.specs.Recorders.{events_in}
+use Rattle.rvm_journal.specs.Recorders.{events_in}
 use Rattle.rvm_recorder.specs.Replay.{IsReplay}
 use Rattle.rvm_journal.specs.declared.header.Header.{Header}
 use Rattle.rvm_journal.specs.declared.header.Image.{Image}

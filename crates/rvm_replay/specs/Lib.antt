@@ -1,5 +1,6 @@
 pub mod Journals
 pub mod FileFaults
+pub mod Behind
 pub mod Consoles
 pub mod Replays
 pub mod Counts

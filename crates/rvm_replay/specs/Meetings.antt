@@ -3,7 +3,7 @@ use Rattle.std.specs.Prelude.{◌≡◌, ◌≢◌, ◌⊎◌, ⊤, ℕ, ◌<◌
 use Rattle.rvm_debug.specs.Words.{lines}
 use Rattle.rvm_journal.specs.declared.header.Header.{Header}
 use Rattle.rvm_journal.specs.Meetings.{AllMeetings}
-use Rattle.rvm_recorder.specs.declared.log.Meeting.{Meeting}
+use Rattle.rvm_station.specs.declared.log.Meeting.{Meeting}
 use Rattle.rvm_replay.specs.declared.file.JournalFile.{JournalFile}
 use Rattle.rvm_replay.specs.Journals.{header_number}
 

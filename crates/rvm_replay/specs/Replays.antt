@@ -11,7 +11,7 @@ use Rattle.rvm_journal.specs.Headers.{header_at}
 use Rattle.rvm_protocol.specs.Modes.{guest_in}
 use Rattle.rvm_recorder.specs.Entries.{PlainEntry}
 use Rattle.rvm_recorder.specs.History.{Recording, count_of, host_now}
-use Rattle.rvm_recorder.specs.Reopening.{most_replayed}
+use Rattle.rvm_replay.specs.Behind.{most_replayed}
 use Rattle.rvm_refusal.specs.declared.refusal.Refusal.TheVariants.{LinkFault}
 use Rattle.rvm_replay.specs.declared.file.FileFault.{FileFault}
 use Rattle.rvm_replay.specs.Consoles.{console_of}

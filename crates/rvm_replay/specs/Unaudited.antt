@@ -6,7 +6,7 @@ use Rattle.rvm_journal.specs.declared.header.Header.{Header}
 use Rattle.rvm_replay.specs.Audited.{IsOnlyOne, is_wanted}
 use Rattle.rvm_replay.specs.Journals.{header_number}
 use Rattle.rvm_journal.specs.Meetings.{SomeMeeting}
-use Rattle.rvm_recorder.specs.declared.log.Meeting.{Meeting}
+use Rattle.rvm_station.specs.declared.log.Meeting.{Meeting}
 use Rattle.rvm_replay.specs.FileFaults.{IsFileFault}
 use Rattle.rvm_replay.specs.Meetings.{HasOtherProcess}
 use Rattle.rvm_replay.specs.declared.file.FileFault.{FileFault}

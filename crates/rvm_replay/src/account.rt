@@ -2,17 +2,18 @@
 
 ghost use Rattle.std.specs.Prelude.{◌≡◌, IfErr, IfOk, None, Some};
 ghost use Rattle.rvm_audit.specs.Outlines.{IsOutlineOf};
-ghost use Rattle.rvm_recorder.specs.Reopening.{most_replayed};
+ghost use Rattle.rvm_replay.specs.Behind.{most_replayed};
 ghost use Rattle.rvm_replay.specs.Counts.{counts_of};
 
 use crate::counts::Counts;
 use crate::file::FileFault;
 use crate::hosts::{idle_host, opening_host, replay_bytes};
 use crate::kept::Kept;
-use rvm_audit::{Outline, Stretches};
-use rvm_journal::{Header, JournalFault};
+use crate::replaying::Replayed;
+use rvm_audit::{Observer, Outline, Stretches};
+use rvm_journal::{Header, JournalFault, Recorder};
 use rvm_mem::PagedMemory;
-use rvm_recorder::{Item, Observer, Recorder, Replayed};
+use rvm_recorder::Item;
 use std::alloc::{AllocError, Global};
 use std::marker::Model;
 use std::snapshot::Snapshot;

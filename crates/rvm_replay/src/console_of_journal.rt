@@ -6,9 +6,10 @@ ghost use Rattle.rvm_message.specs.Taken.{bytes_in, taken_by};
 ghost use Rattle.rvm_replay.specs.Consoles.{console_of, taken_in};
 ghost use Rattle.rvm_recorder.specs.Items.{all_of};
 
+use rvm_audit::Observer;
 use rvm_board::{BoardEvent, BoardReply};
 use rvm_message::{Command, ExchangeRef, HostEvent, HostReply};
-use rvm_recorder::{Entry, Item, ItemRef, Observer};
+use rvm_recorder::{Entry, Item, ItemRef};
 use rvm_refusal::LinkFault;
 use std::alloc::{AllocError, Global};
 use std::io::Write;

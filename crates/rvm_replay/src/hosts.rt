@@ -8,21 +8,23 @@ ghost use Rattle.rvm_journal.specs.declared.header.Image.{Image};
 ghost use Rattle.rvm_journal.specs.Headers.{IsRanged, IsSized, header_at};
 ghost use Rattle.rvm_journal.specs.declared.replay.JournalFault.TheVariants as fault;
 ghost use Rattle.rvm_recorder.specs.History.{count_of};
-ghost use Rattle.rvm_recorder.specs.Reopening.{most_replayed};
+ghost use Rattle.rvm_replay.specs.Behind.{most_replayed};
 ghost use Rattle.rvm_replay.specs.declared.file.FileFault.TheVariants.{Journal, NoHeader};
 ghost use Rattle.rvm_replay.specs.FileFaults.{IsFileFault, IsGuestFault, IsOtherImage};
 ghost use Rattle.rvm_replay.specs.Journals.{IsGuestNamed, IsHostAfter, IsHostOf, IsOpening};
 ghost use Rattle.rvm_replay.specs.Replays.{IsDone, guest_after};
 
 use crate::file::FileFault;
+use crate::replaying::Replayed;
 use rvm_arguments::GuestArguments;
+use rvm_audit::Observer;
 use rvm_board::{Debugged, MAX_HARTS};
 use rvm_command::guest::read_guest;
 use rvm_guest::valid_guest;
 use rvm_host::Host;
-use rvm_journal::{Header, Image, JournalFault, read_header, replay_journal};
+use rvm_journal::{Header, Image, JournalFault, Recorder, read_header, replay_journal};
 use rvm_mem::{MAX_PAGES, PagedMemory};
-use rvm_recorder::{Observer, Recorded, Recorder, Replayed};
+use rvm_recorder::Recorded;
 use sha2::{Digest, Sha256};
 use std::alloc::Global;
 
@@ -46,7 +48,7 @@ pub(crate) fn host_of_journal<M: PagedMemory + Drop, O: Observer + Drop>(
     alloc: Global,
     journal: &[u8],
     image: &[u8],
-    most: Option<u32>,
+    most: Option<u64>,
 ) -> Result<Done<M, O>, FileFault>
     ensures host { IfOk result (λ d. IsDone O.shows most journal.now image.now
         (option_map (λ (g : GuestState). g.guest) d.guest) d.count d.observer) }
@@ -129,7 +131,7 @@ pub(crate) fn replay_bytes<R: Recorder>(
     header: &Header,
     bytes: &[u8],
     image: &[u8],
-    most: Option<u32>,
+    most: Option<u64>,
     recorder: &mut R,
 ) -> Result<(), FileFault>
     requires opening { IsOpening header.now image.now (R.recording recorder.old).journal.opening }

@@ -12,7 +12,7 @@ ghost use Rattle.rvm_replay.specs.declared.headers.Wanted.TheVariants.{WithGuest
 use crate::file::{FileFault, JournalFile, JournalsFault};
 use rvm_debug::split_line;
 use rvm_journal::{Header, letter_of, meeting_of, read_header};
-use rvm_recorder::Meeting;
+use rvm_station::Meeting;
 
 /// Checks that each host that a journal tells to have been met is of the process that its own journal tells, if that is
 /// here, and of the world of the journal with the index `first`, which has the header `opening`.

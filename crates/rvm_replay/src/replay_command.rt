@@ -27,7 +27,7 @@ pub fn replay_command<M: PagedMemory + Drop, O: Write, E: Write>(
     name: &str,
     journal: &[u8],
     image: &[u8],
-    until: Option<u32>,
+    until: Option<u64>,
     output: &mut O,
     errors: &mut E,
 ) -> Result<u8, LinkFault>

@@ -31,7 +31,7 @@ pub fn replay_session<M: PagedMemory + Drop, R: Read, O: Write + Drop, E: Write>
     name: &str,
     journal: &[u8],
     image: &[u8],
-    until: Option<u32>,
+    until: Option<u64>,
     reader: &mut R,
     output: &mut BufWriter<O>,
     errors: &mut E,

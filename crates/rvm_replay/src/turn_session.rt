@@ -164,7 +164,7 @@ fn answer_at<M: PagedMemory + Drop, R: Read, O: Write + Drop, E: Write>(
         file.name,
         &file.bytes,
         image,
-        Some(place.count),
+        Some(u64::from(place.count)),
         reader,
         output,
         errors,

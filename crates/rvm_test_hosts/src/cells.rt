@@ -3,15 +3,14 @@
 ghost use Rattle.std.specs.Prelude.{◌≡◌};
 
 use rvm_board::{Board, Debugged, Snapshot};
-use rvm_cell::{HostCell, Opening, Slice, Then};
 use rvm_frame::Frame;
 use rvm_hart::RAM_BASE;
 use rvm_host::{Host, ModeKind};
 use rvm_mem::{FlatMemory, PagedMemory, write_bytes};
 use rvm_message::{Command, HostRefusal, HostReply};
 use rvm_precopy::Policy;
-use rvm_recorder::{EventLog, Meeting, NoLog};
 use rvm_refusal::LinkFault;
+use rvm_station::{EventLog, HostCell, Meeting, NoLog, Opening, Slice, Then};
 use std::alloc::Global;
 use std::marker::Brand;
 use std::process::Abort;

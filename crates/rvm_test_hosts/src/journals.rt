@@ -4,8 +4,8 @@ use rvm_board::BoardEvent;
 use rvm_frame::Frame;
 use rvm_journal::{Header, JournalWriter, is_whole};
 use rvm_message::Command;
-use rvm_recorder::EventLog;
 use rvm_refusal::LinkFault;
+use rvm_station::EventLog;
 use std::alloc::Global;
 use std::test::Fail;
 

@@ -12,9 +12,10 @@ use rvm_journal::{Header, Image};
 use rvm_mem::write_bytes;
 use rvm_message::{Command, HostEvent};
 use rvm_paged::PagedRam;
-use rvm_recorder::{Meeting, Recorded};
+use rvm_recorder::Recorded;
 use rvm_replay::audit::{AuditText, audit_journals};
 use rvm_replay::file::JournalFile;
+use rvm_station::Meeting;
 use std::alloc::Global;
 use std::io::{self, BufWriter};
 

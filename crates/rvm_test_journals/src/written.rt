@@ -4,7 +4,8 @@ use rvm_board::BoardEvent;
 use rvm_journal::{Header, JournalWriter};
 use rvm_message::{Command, Exchange, ExchangeRef, HostEvent};
 use rvm_paged::PagedRam;
-use rvm_recorder::{EventLog, Item, ItemRef, Journal, Meeting};
+use rvm_recorder::{Item, ItemRef, Journal};
+use rvm_station::{EventLog, Meeting};
 use std::alloc::Global;
 use std::io::Write;
 

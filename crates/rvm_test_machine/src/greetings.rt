@@ -1,7 +1,7 @@
 //! Greetings: what two ends say byte by byte, made by another program, and what is told to an end that does not know
 //! the secret.
 
-use rvm_greeting::{Facts, GreetingFault, Registry, Secret, accept, greet};
+use rvm_link::{Facts, GreetingFault, Registry, Secret, accept, greet};
 use std::test::Fail;
 
 /// The secret of both ends.

@@ -1,7 +1,7 @@
 //! The hosts of a world, as a file names them: a file is read, and the place of a fault is reported.
 
 use crate::retry::again;
-use rvm_greeting::{Peers, PeersFault, read_peers};
+use rvm_link::{Peers, PeersFault, read_peers};
 use std::alloc::{AllocError, Global};
 use std::test::Fail;
 

@@ -3,10 +3,11 @@
 //! program prints for each call whether memory ran out, whether all was unchanged each time, and whether it was made in
 //! the end.
 //!
-//! To be read in this order: `heap`, `trial`, `single`, `worlds`, `shared`.
+//! To be read in this order: `heap`, `trial`, `single`, `worlds`, `shared`, `replayed`.
 #![tactic(auto)]
 
 mod heap;
+mod replayed;
 mod shared;
 mod single;
 mod trial;
@@ -20,6 +21,7 @@ fn main(rt: HostRuntime) {
             single::try_calls(&rt, &mut heap).is_some()
                 && worlds::try_moves(&rt, &mut heap).is_some()
                 && shared::try_calls(&rt, &mut heap).is_some()
+                && replayed::try_calls(&rt, &mut heap).is_some()
         }
         None => false,
     };

@@ -2,11 +2,11 @@
 
 use crate::asked::{AUDIT_STEPS, LOOP, to_move, to_script};
 use rvm_audit::audit;
-use rvm_command::script_command::script_command;
 use rvm_core::{Event, write_guest_reply, write_move_reply, write_steps_reply};
 use rvm_hart::Stepped;
 use rvm_message::{Command, Exchange, ExchangeRef, HostEvent, StepReply};
 use rvm_move::audit_over::{Audited, audit_over};
+use rvm_move::script_command::script_command;
 use rvm_paged::PagedRam;
 use rvm_recorder::{Entry, Left, Told};
 use rvm_refusal::LinkFault;

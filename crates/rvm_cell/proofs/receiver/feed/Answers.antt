@@ -1,7 +1,8 @@
 use Rattle.std.proofs.Common.{rules, ◌≡◌, ◌++◌, None, Ok, Some, arith}
 use Rattle.rvm_frame.specs.Reader.{next_of}
 use Rattle.rvm_frame.specs.Verdict.{Decides}
-use Rattle.rvm_cell.specs.Heard.{IsAllButLast, comes}
+use Rattle.rvm_cell.specs.Heard.{IsAllButLast}
+use Rattle.rvm_station.specs.Streams.{comes}
 use Rattle.rvm_cell.proofs.Heard.{ended_with, no_frame, one_heard}
 use Rattle.rvm_cell.proofs.receiver.feed.Goals as goal
 

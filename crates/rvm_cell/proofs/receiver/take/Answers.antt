@@ -1,6 +1,7 @@
 use Rattle.std.proofs.Common.{rules, [], ◌++◌, refl, take, subst, sym}
 use Rattle.rvm_cell.specs.Heard.{AreHeard, IsHeardUpTo}
-use Rattle.rvm_cell.proofs.Heard.{goes_on, heard_more, heard_up_to, none_heard, waits_heard}
+use Rattle.rvm_cell.proofs.Heard.{heard_more, heard_up_to, none_heard, waits_heard}
+use Rattle.rvm_station.proofs.Runs.{goes_on}
 use Rattle.rvm_cell.proofs.receiver.take.Goals as goal
 
 pub returns-in_err-taken-clause-some : goal.returns-in_err-taken-clause-some

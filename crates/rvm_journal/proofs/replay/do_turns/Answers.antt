@@ -1,5 +1,5 @@
 use Rattle.std.proofs.Common.{◌-◌, arith, length, refl}
-use Rattle.rvm_recorder.specs.Logs.{steps_from}
+use Rattle.rvm_station.specs.Logs.{steps_from}
 use Rattle.rvm_journal.specs.Replaying.{LacksRoom}
 use Rattle.rvm_journal.proofs.Replayed.{handed_on, lacks_room, more_turned, none_left, none_turned}
 use Rattle.rvm_journal.proofs.replay.do_turns.Goals as goal

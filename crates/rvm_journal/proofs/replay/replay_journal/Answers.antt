@@ -2,7 +2,7 @@ use Rattle.std.proofs.Common.{rules, ◌+◌, refl, arith, inl}
 use Rattle.rvm_debug.proofs.Reading.{lines_of_none}
 use Rattle.rvm_debug.specs.Words.{lines}
 use Rattle.rvm_journal.specs.Replaying.{IsJournalFault}
-use Rattle.rvm_recorder.specs.Recorders.{room_of}
+use Rattle.rvm_journal.specs.Recorders.{room_of}
 use Rattle.rvm_journal.proofs.Replayed.{all_done, handed_on, header_done, lacks_all, lacks_first, line_done, own_digest, room_refused}
 use Rattle.rvm_journal.proofs.replay.replay_journal.Goals as goal
 

@@ -22,9 +22,11 @@ returns-clause-status g c turn place =
     session out out' c.replay_session.result errors errors'
     (subst (λ (bytes : List ℕ). IfOk c.replay_session.result (λ s. HasSessionStatus s file.name.now (Some c.args.place.count)
     bytes image session out out' errors errors')) c.deref.ensures.value
-    (session_status_of c.replay_session.result file.name.now (Some c.args.place.count) c.deref.result.now image session out out'
+    (subst (λ (count : ℕ). IfOk c.replay_session.result (λ s. HasSessionStatus s file.name.now (Some count)
+    c.deref.result.now image session out out' errors errors')) c.from.ensures
+    (session_status_of c.replay_session.result file.name.now (Some c.from.result) c.deref.result.now image session out out'
     errors errors' c.replay_session.ensures.status c.replay_session.ensures.answered c.replay_session.ensures.silent
-    c.replay_session.ensures.refused))
+    c.replay_session.ensures.refused)))
 
 pub returns-clause-untold : goal.returns-clause-untold
 returns-clause-untold g c turn place =
@@ -39,4 +41,6 @@ returns-clause-untold g c turn place =
     session out out' c.replay_session.result
     (subst (λ (bytes : List ℕ). OnErr c.replay_session.result (IsUntold (λ status before after. HasSessionStatus status
     file.name.now (Some c.args.place.count) bytes image session out out' before after))) c.deref.ensures.value
-    c.replay_session.ensures.untold)
+    (subst (λ (count : ℕ). OnErr c.replay_session.result (IsUntold (λ status before after. HasSessionStatus status
+    file.name.now (Some count) c.deref.result.now image session out out' before after))) c.from.ensures
+    c.replay_session.ensures.untold))

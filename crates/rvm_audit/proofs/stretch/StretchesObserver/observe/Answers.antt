@@ -1,5 +1,5 @@
 use Rattle.std.proofs.Common.{sym}
-use Rattle.rvm_recorder.proofs.Pasts.{one_more}
+use Rattle.rvm_audit.proofs.Pasts.{one_more}
 use Rattle.rvm_audit.proofs.stretch.StretchesObserver.observe.Goals as goal
 
 pub loop-item-preserved : goal.loop-item-preserved

@@ -1,4 +1,0 @@
-pub mod Pieces
-pub mod Examples
-mod Naming
-mod PeerExamples

@@ -1,5 +1,0 @@
-pub mod Hmac
-pub mod Openings
-pub mod Facts
-pub mod Greetings
-pub mod Peers

@@ -1,0 +1,12 @@
+pub mod Logs
+pub mod Events
+pub mod Asked
+pub mod Logged
+pub mod Halts
+pub mod Limits
+pub mod Looks
+pub mod News
+pub mod Streams
+pub mod Hearing
+pub mod Console
+pub mod Movers
