@@ -1,7 +1,7 @@
 -- Words that the manual and assemblers give, decoded by the table.
 use Rattle.std.proofs.Common.{◌≡◌, pos, negsuc, true, false, Some, None, length, refl}
 use Rattle.rvm_word.specs.Word.{signed_value}
-use Rattle.rvm_isa.specs.declared.ins.Ins.TheVariants.{Addi, AmomaxuW, Beq, Bne, Csrrwi, Jal, LrW, Lui, Sb, ScW, Slli, Sw}
+use Rattle.rvm_isa.specs.declared.ins.Ins.TheVariants.{Addi, AmomaxuW, Beq, Bne, Csrrwi, Fence, FenceI, Jal, LrW, Lui, Sb, ScW, Slli, Sw}
 use Rattle.rvm_isa.specs.Table.{table, row_of, decoded}
 
 the_table_has_68_rows : length table ≡ 68
@@ -96,3 +96,12 @@ maximum_acquires = refl
 csr_immediate : decoded 0x300FD073 ≡ Some (Csrrwi 0 31 0x300)
 unfolding decoded row_of table signed_value
 csr_immediate = refl
+
+-- fence and fence.i with bits in fields that no row looks at, as GNU's assembler encodes them
+fence_with_registers : decoded 0x9B56898F ≡ Some (Fence 19 13 (negsuc 1610))
+unfolding decoded row_of table signed_value
+fence_with_registers = refl
+
+fence_i_with_registers : decoded 0x9B56998F ≡ Some (FenceI 19 13 (negsuc 1610))
+unfolding decoded row_of table signed_value
+fence_i_with_registers = refl

@@ -77,21 +77,125 @@ static ROWS: [(u32, &str); 68] = [
     (0xE6C9A2AF, "amomaxu.w.aqrl t0, a2, (s3)"),
 ];
 
-/// No row; a fence of writes alone, one with total store ordering, and a fence.i with an
+/// Words that another assembler (GNU `as`) makes, at 0x80000000: each row with as many bits set and clear as it may have; the
+/// two fences with registers have no text.
+static OTHER_ROWS: [(u32, &str); 76] = [
+    (0x9A5C39B7, "lui s3, 0x9a5c3"),
+    (0x9A5C3997, "auipc s3, 0x9a5c3"),
+    (0xB2E699EF, "jal s3, 0x7ff6932e"),
+    (0x9B5689E7, "jalr s3, -1611(a3)"),
+    (0xE5868B63, "beq a3, s8, 0x7ffff656"),
+    (0xE5869B63, "bne a3, s8, 0x7ffff656"),
+    (0xE586CB63, "blt a3, s8, 0x7ffff656"),
+    (0xE586DB63, "bge a3, s8, 0x7ffff656"),
+    (0xE586EB63, "bltu a3, s8, 0x7ffff656"),
+    (0xE586FB63, "bgeu a3, s8, 0x7ffff656"),
+    (0x9B568983, "lb s3, -1611(a3)"),
+    (0x9B569983, "lh s3, -1611(a3)"),
+    (0x9B56A983, "lw s3, -1611(a3)"),
+    (0x9B56C983, "lbu s3, -1611(a3)"),
+    (0x9B56D983, "lhu s3, -1611(a3)"),
+    (0x9B868AA3, "sb s8, -1611(a3)"),
+    (0x9B869AA3, "sh s8, -1611(a3)"),
+    (0x9B86AAA3, "sw s8, -1611(a3)"),
+    (0x9B568993, "addi s3, a3, -1611"),
+    (0x9B56A993, "slti s3, a3, -1611"),
+    (0x9B56B993, "sltiu s3, a3, -1611"),
+    (0x9B56C993, "xori s3, a3, -1611"),
+    (0x9B56E993, "ori s3, a3, -1611"),
+    (0x9B56F993, "andi s3, a3, -1611"),
+    (0x01669993, "slli s3, a3, 22"),
+    (0x0166D993, "srli s3, a3, 22"),
+    (0x4166D993, "srai s3, a3, 22"),
+    (0x018689B3, "add s3, a3, s8"),
+    (0x418689B3, "sub s3, a3, s8"),
+    (0x018699B3, "sll s3, a3, s8"),
+    (0x0186A9B3, "slt s3, a3, s8"),
+    (0x0186B9B3, "sltu s3, a3, s8"),
+    (0x0186C9B3, "xor s3, a3, s8"),
+    (0x0186D9B3, "srl s3, a3, s8"),
+    (0x4186D9B3, "sra s3, a3, s8"),
+    (0x0186E9B3, "or s3, a3, s8"),
+    (0x0186F9B3, "and s3, a3, s8"),
+    (0x038689B3, "mul s3, a3, s8"),
+    (0x038699B3, "mulh s3, a3, s8"),
+    (0x0386A9B3, "mulhsu s3, a3, s8"),
+    (0x0386B9B3, "mulhu s3, a3, s8"),
+    (0x0386C9B3, "div s3, a3, s8"),
+    (0x0386D9B3, "divu s3, a3, s8"),
+    (0x0386E9B3, "rem s3, a3, s8"),
+    (0x0386F9B3, "remu s3, a3, s8"),
+    (0x9B56898F, ".word 0x9b56898f"),
+    (0x9B56998F, ".word 0x9b56998f"),
+    (0x00000073, "ecall"),
+    (0x00100073, "ebreak"),
+    (0x30200073, "mret"),
+    (0x10500073, "wfi"),
+    (0xB1A699F3, "csrrw s3, 0xb1a, a3"),
+    (0xB1A6A9F3, "csrrs s3, 0xb1a, a3"),
+    (0xB1A6B9F3, "csrrc s3, 0xb1a, a3"),
+    (0xB1AB59F3, "csrrwi s3, 0xb1a, 22"),
+    (0xB1AB69F3, "csrrsi s3, 0xb1a, 22"),
+    (0xB1AB79F3, "csrrci s3, 0xb1a, 22"),
+    (0x1406A9AF, "lr.w.aq s3, (a3)"),
+    (0x1986A9AF, "sc.w s3, s8, (a3)"),
+    (0x0986A9AF, "amoswap.w s3, s8, (a3)"),
+    (0x0186A9AF, "amoadd.w s3, s8, (a3)"),
+    (0x2186A9AF, "amoxor.w s3, s8, (a3)"),
+    (0x6186A9AF, "amoand.w s3, s8, (a3)"),
+    (0x4186A9AF, "amoor.w s3, s8, (a3)"),
+    (0x8186A9AF, "amomin.w s3, s8, (a3)"),
+    (0xA186A9AF, "amomax.w s3, s8, (a3)"),
+    (0xC186A9AF, "amominu.w s3, s8, (a3)"),
+    (0xE186A9AF, "amomaxu.w s3, s8, (a3)"),
+    (0x4D5960EF, "jal ra, 0x80096cd4"),
+    (0x1A1116E3, "bne sp, ra, 0x800009ac"),
+    (0x52112AA3, "sw ra, 1333(sp)"),
+    (0x123450B7, "lui ra, 0x12345"),
+    (0x40915093, "srai ra, sp, 9"),
+    (0x300110F3, "csrrw ra, 0x300, sp"),
+    (0x120120AF, "lr.w.rl ra, (sp)"),
+    (0xE61120AF, "amomaxu.w.aqrl ra, ra, (sp)"),
+];
+
+/// Words without a text of their own: no row; a fence of writes alone, one with total store ordering, and a fence.i with an
 /// immediate; a shift by 32.
-static DATA: [(u32, &str); 6] = [
+static DATA: [(u32, &str); 24] = [
     (0x00000000, ".word 0x00000000"),
     (0xFFFFFFFF, ".word 0xffffffff"),
     (0x0110000F, ".word 0x0110000f"),
     (0x8330000F, ".word 0x8330000f"),
     (0x0010100F, ".word 0x0010100f"),
     (0x02051513, ".word 0x02051513"),
+    // lr.w with a second source, slli with a bit above its amount
+    (0x1010202F, ".word 0x1010202f"),
+    (0x02001013, ".word 0x02001013"),
+    // or with the bit that turns add into sub, ecall with a destination
+    (0x40006033, ".word 0x40006033"),
+    (0x000000F3, ".word 0x000000f3"),
+    // funct3 without a row: jalr, branch, load, store, fence, system, atomic
+    (0x00001067, ".word 0x00001067"),
+    (0x00002063, ".word 0x00002063"),
+    (0x00003003, ".word 0x00003003"),
+    (0x00003023, ".word 0x00003023"),
+    (0x0000200F, ".word 0x0000200f"),
+    (0x00004073, ".word 0x00004073"),
+    (0x0000302F, ".word 0x0000302f"),
+    // an atomic's funct5 without a row; sret; sfence.vma
+    (0x2800202F, ".word 0x2800202f"),
+    (0x10200073, ".word 0x10200073"),
+    (0x12000073, ".word 0x12000073"),
+    // addiw, flw, fadd.s, and the compressed c.li a0, 0
+    (0x0000001B, ".word 0x0000001b"),
+    (0x00002007, ".word 0x00002007"),
+    (0x00000053, ".word 0x00000053"),
+    (0x00004501, ".word 0x00004501"),
 ];
 
 #[test]
 fn each_row_and_other_words_have_their_texts(rt: HostRuntime) -> Result<(), Fail> {
     let mut written = Vec::new(rt.alloc());
-    for (word, text) in ROWS.iter().chain(DATA.iter()) {
+    for (word, text) in ROWS.iter().chain(&OTHER_ROWS).chain(&DATA) {
         written.clear();
         if write_ins(0x80000000, *word, &mut written).is_err() {
             written.clear();

@@ -18,8 +18,6 @@ mod assembler;
 #[cfg(test)]
 mod boards;
 #[cfg(test)]
-mod both_memories;
-#[cfg(test)]
 mod disassembler;
 #[cfg(test)]
 mod elf;
@@ -32,20 +30,14 @@ mod limits;
 #[cfg(test)]
 mod memory;
 #[cfg(test)]
-mod paged;
-#[cfg(test)]
 mod peers;
 #[cfg(test)]
 mod retry;
-#[cfg(test)]
-mod rows;
 #[cfg(test)]
 mod scripts;
 #[cfg(test)]
 mod state;
 #[cfg(test)]
 mod straight;
-#[cfg(test)]
-mod words;
 #[cfg(test)]
 mod worked;

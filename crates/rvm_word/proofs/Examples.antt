@@ -1,5 +1,5 @@
 -- Values that the standard states, computed by the definitions.
-use Rattle.std.proofs.Common.{◌≡◌, ◌*◌, ◌/◌, ◌^◌, ◌*ℤ◌, ◌+ℤ◌, pos, negsuc, true, false, refl}
+use Rattle.std.proofs.Common.{◌≡◌, [], ◌∷◌, ◌*◌, ◌/◌, ◌^◌, ◌*ℤ◌, ◌+ℤ◌, pos, negsuc, true, false, refl}
 use Rattle.std.specs.Prelude.{int_lt}
 use Rattle.rvm_word.specs.Bits.{bit, is_set, low_half, high_half, with_low, with_high}
 use Rattle.rvm_word.specs.Word.{signed_value, signed, modulo, high, floor_shift, quotient, remainder, unsigned_quotient, unsigned_remainder}
@@ -26,6 +26,23 @@ unsigned_quotient_by_zero = refl
 unsigned_remainder_by_zero : unsigned_remainder 7 0 ≡ 7
 unsigned_remainder_by_zero = refl
 
+-- the manual's table of divisions: 20 and -20 by 6 and -6
+quotients : quotient 20 6 ∷ quotient 0xFFFFFFEC 6 ∷ quotient 20 0xFFFFFFFA ∷ quotient 0xFFFFFFEC 0xFFFFFFFA ∷ []
+  ≡ 3 ∷ 0xFFFFFFFD ∷ 0xFFFFFFFD ∷ 3 ∷ []
+unfolding signed_value
+quotients = refl
+
+remainders : remainder 20 6 ∷ remainder 0xFFFFFFEC 6 ∷ remainder 20 0xFFFFFFFA ∷ remainder 0xFFFFFFEC 0xFFFFFFFA ∷ []
+  ≡ 2 ∷ 0xFFFFFFFE ∷ 2 ∷ 0xFFFFFFFE ∷ []
+unfolding signed_value
+remainders = refl
+
+unsigned_quotients : unsigned_quotient 0xFFFFFFEC 6 ∷ unsigned_quotient 0x80000000 0xFFFFFFFF ∷ [] ≡ 0x2AAAAAA7 ∷ 0 ∷ []
+unsigned_quotients = refl
+
+unsigned_remainders : unsigned_remainder 0xFFFFFFEC 6 ∷ unsigned_remainder 0x80000000 0xFFFFFFFF ∷ [] ≡ 2 ∷ 0x80000000 ∷ []
+unsigned_remainders = refl
+
 -- -7 by 2 rounds towards zero: -3, and -1 is left
 quotient_rounds : quotient 0xFFFFFFF9 2 ≡ 0xFFFFFFFD
 unfolding signed_value
@@ -46,6 +63,23 @@ high_mixed = refl
 
 high_unsigned : 0xFFFFFFFF * 0xFFFFFFFF / 2 ^ 32 ≡ 0xFFFFFFFE
 high_unsigned = refl
+
+-- products of the public tests of RISC-V
+high_signed_of_unlike : high (signed 0xAAAAAAAB *ℤ signed 0x0002FE7D) ∷ high (signed 0x80000000 *ℤ signed 0xFFFF8000) ∷ []
+  ≡ 0xFFFF0081 ∷ 0x00004000 ∷ []
+unfolding signed_value
+high_signed_of_unlike = refl
+
+high_mixed_of_unlike : high (signed 0x0002FE7D *ℤ pos 0xAAAAAAAB) ∷ high (signed 0x80000000 *ℤ pos 0xFFFF8000) ∷ []
+  ≡ 0x0001FEFE ∷ 0x80004000 ∷ []
+unfolding signed_value
+high_mixed_of_unlike = refl
+
+-- right shifts of the public tests of RISC-V
+shifts_fill_with_the_sign : modulo 32 (floor_shift (signed 0x81818181) 7) ∷ modulo 32 (floor_shift (signed 0x80000000) 31)
+  ∷ modulo 32 (floor_shift (signed 0x7FFFFFFF) 31) ∷ [] ≡ 0xFF030303 ∷ 0xFFFFFFFF ∷ 0 ∷ []
+unfolding signed_value
+shifts_fill_with_the_sign = refl
 
 -- -5 shifted right by one is -3
 shift_rounds_down : modulo 32 (floor_shift (signed 0xFFFFFFFB) 1) ≡ 0xFFFFFFFD
