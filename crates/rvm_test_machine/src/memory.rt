@@ -9,13 +9,22 @@ use std::test::Fail;
 fn memories_are_made_within_their_limits(rt: HostRuntime) -> Result<(), Fail> {
     let alloc = rt.alloc();
     let flat = again!(FlatMemory::zeroed(alloc, 2));
-    assert_eq!(rt; (flat.pages(), flat.len(), flat.dirty_count()), (2, 8192, 0));
+    assert_eq!(rt;
+        (flat.pages(), flat.len(), flat.dirty_count()),
+        (2, 8192, 0)
+    );
     let ram = again!(PagedRam::new(alloc, MAX_PAGES));
-    assert_eq!(rt; (ram.pages(), ram.len(), ram.dirty_count()), (4096, 0x0100_0000, 0));
+    assert_eq!(rt;
+        (ram.pages(), ram.len(), ram.dirty_count()),
+        (4096, 0x0100_0000, 0)
+    );
     let none = again!(PagedRam::zeroed(alloc, 0));
     assert_eq!(rt; (none.pages(), none.len()), (0, 0));
     for pages in [0, MAX_PAGES + 1] {
-        assert_eq!(rt; PagedRam::new(alloc, pages).err(), Some(PagedError::BadSize));
+        assert_eq!(rt;
+            PagedRam::new(alloc, pages).err(),
+            Some(PagedError::BadSize)
+        );
     }
     let set = again!(PageSet::new(alloc, 70));
     assert_eq!(rt; (set.pages(), set.count()), (70, 0));

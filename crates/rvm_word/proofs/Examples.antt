@@ -28,12 +28,12 @@ unsigned_remainder_by_zero = refl
 
 -- the manual's table of divisions: 20 and -20 by 6 and -6
 quotients : quotient 20 6 ∷ quotient 0xFFFFFFEC 6 ∷ quotient 20 0xFFFFFFFA ∷ quotient 0xFFFFFFEC 0xFFFFFFFA ∷ []
-  ≡ 3 ∷ 0xFFFFFFFD ∷ 0xFFFFFFFD ∷ 3 ∷ []
+    ≡ 3 ∷ 0xFFFFFFFD ∷ 0xFFFFFFFD ∷ 3 ∷ []
 unfolding signed_value
 quotients = refl
 
 remainders : remainder 20 6 ∷ remainder 0xFFFFFFEC 6 ∷ remainder 20 0xFFFFFFFA ∷ remainder 0xFFFFFFEC 0xFFFFFFFA ∷ []
-  ≡ 2 ∷ 0xFFFFFFFE ∷ 2 ∷ 0xFFFFFFFE ∷ []
+    ≡ 2 ∷ 0xFFFFFFFE ∷ 2 ∷ 0xFFFFFFFE ∷ []
 unfolding signed_value
 remainders = refl
 
@@ -66,18 +66,18 @@ high_unsigned = refl
 
 -- products of the public tests of RISC-V
 high_signed_of_unlike : high (signed 0xAAAAAAAB *ℤ signed 0x0002FE7D) ∷ high (signed 0x80000000 *ℤ signed 0xFFFF8000) ∷ []
-  ≡ 0xFFFF0081 ∷ 0x00004000 ∷ []
+    ≡ 0xFFFF0081 ∷ 0x00004000 ∷ []
 unfolding signed_value
 high_signed_of_unlike = refl
 
 high_mixed_of_unlike : high (signed 0x0002FE7D *ℤ pos 0xAAAAAAAB) ∷ high (signed 0x80000000 *ℤ pos 0xFFFF8000) ∷ []
-  ≡ 0x0001FEFE ∷ 0x80004000 ∷ []
+    ≡ 0x0001FEFE ∷ 0x80004000 ∷ []
 unfolding signed_value
 high_mixed_of_unlike = refl
 
 -- right shifts of the public tests of RISC-V
 shifts_fill_with_the_sign : modulo 32 (floor_shift (signed 0x81818181) 7) ∷ modulo 32 (floor_shift (signed 0x80000000) 31)
-  ∷ modulo 32 (floor_shift (signed 0x7FFFFFFF) 31) ∷ [] ≡ 0xFF030303 ∷ 0xFFFFFFFF ∷ 0 ∷ []
+    ∷ modulo 32 (floor_shift (signed 0x7FFFFFFF) 31) ∷ [] ≡ 0xFF030303 ∷ 0xFFFFFFFF ∷ 0 ∷ []
 unfolding signed_value
 shifts_fill_with_the_sign = refl
 
