@@ -1,107 +1,110 @@
 //! The command line: the values that its words have.
 
-use rvm_arguments::{Arguments, RunArguments};
+use crate::hosts::again;
 use rvm_command_line::parse_args;
-use std::process::Abort;
+use std::alloc::{AllocError, Global};
 use std::test::Fail;
 
-#[test]
-fn options_have_defaults(rt: HostRuntime) -> Result<(), Fail> {
-    let words = ["rvmove", "run", "--raw", "guest.bin"];
-    match parse_args(rt.alloc(), &words)?.arguments {
-        Arguments::Run(run) => {
-            assert_numbers(&rt, &run, [1, 256, 1_000_000]);
-            assert_eq!(rt; run.guest.image, "guest.bin");
-            assert!(rt; run.guest.raw);
-            assert!(rt; run.input.is_none() && run.seed.is_none());
-        }
-        other => panic!(rt; "{other:?}"),
-    }
-    Ok(())
-}
+/// Words after the program's name, and what they ask for.
+static ASKED: [(&[&str], &str); 12] = [
+    // Options have defaults.
+    (
+        &["run", "--raw", "guest.bin"],
+        "Run(RunArguments { guest: GuestArguments { image: \"guest.bin\", raw: true, harts: 1, pages: 256 }, input: None, \
+            steps: 1000000, status: Command, stop_at_fault: false, trace: None, report: None, seed: None })",
+    ),
+    // Options reach their limits.
+    (
+        &[
+            "run",
+            "guest.elf",
+            "--harts=8",
+            "--pages",
+            "4096",
+            "--steps",
+            "1000000000",
+            "--input",
+            "keys.txt",
+            "--order",
+            "4294967295",
+        ],
+        "Run(RunArguments { guest: GuestArguments { image: \"guest.elf\", raw: false, harts: 8, pages: 4096 }, \
+            input: Some(\"keys.txt\"), steps: 1000000000, status: Command, stop_at_fault: false, trace: None, \
+            report: None, seed: Some(4294967295) })",
+    ),
+    (
+        &["asm", "hello.s", "hello.elf"],
+        "Asm(AsmArguments { source: \"hello.s\", output: \"hello.elf\" })",
+    ),
+    (
+        &["dis", "--raw", "hello.bin"],
+        "Dis(DisArguments { image: \"hello.bin\", raw: true })",
+    ),
+    (
+        &["debug", "hello.elf", "--pages", "7"],
+        "Debug(DebugArguments { guest: GuestArguments { image: \"hello.elf\", raw: false, harts: 1, pages: 7 }, \
+            extended: false })",
+    ),
+    (
+        &["tell", "./a.socket"],
+        "Tell(TellArguments { control: \"./a.socket\", line: None })",
+    ),
+    (
+        &["tell", "./a.socket", "--explain"],
+        "Tell(TellArguments { control: \"./a.socket\", line: None }), explained",
+    ),
+    // An audit takes up to eight journals.
+    (
+        &[
+            "audit-journals",
+            "--image",
+            "i",
+            "a",
+            "b",
+            "c",
+            "d",
+            "e",
+            "f",
+            "g",
+            "h",
+        ],
+        "AuditJournals(AuditJournalsArguments { journals: [\"a\", \"b\", \"c\", \"d\", \"e\", \"f\", \"g\", \"h\"], \
+            image: \"i\", order: false, chart: None })",
+    ),
+    // A live run has a limit only if one is given.
+    (
+        &["run", "a.elf", "--input", "-"],
+        "Live(LiveArguments { guest: GuestArguments { image: \"a.elf\", raw: false, harts: 1, pages: 256 }, \
+            input: Some(\"-\"), journal: None, steps: None, status: Command })",
+    ),
+    (
+        &[
+            "run",
+            "a.elf",
+            "--journal",
+            "a.journal",
+            "--steps",
+            "1000000",
+        ],
+        "Live(LiveArguments { guest: GuestArguments { image: \"a.elf\", raw: false, harts: 1, pages: 256 }, \
+            input: None, journal: Some(\"a.journal\"), steps: Some(1000000), status: Command })",
+    ),
+    // A replay of several journals goes by turns.
+    (
+        &[
+            "replay", "a", "b", "--image", "i", "--turns", "7", "--script", "-",
+        ],
+        "ReplayTurns(ReplayTurnsArguments { journals: [\"a\", \"b\"], image: \"i\", turns: 7, script: \"-\" })",
+    ),
+    (
+        &["replay", "a"],
+        "Replay(ReplayArguments { journal: \"a\", image: None, until: None, script: None })",
+    ),
+];
 
-#[test]
-fn options_reach_their_limits(rt: HostRuntime) -> Result<(), Fail> {
-    let words = [
-        "rvmove",
-        "run",
-        "guest.elf",
-        "--harts=8",
-        "--pages",
-        "4096",
-        "--steps",
-        "1000000000",
-        "--input",
-        "keys.txt",
-        "--order",
-        "4294967295",
-    ];
-    match parse_args(rt.alloc(), &words)?.arguments {
-        Arguments::Run(run) => {
-            assert_numbers(&rt, &run, [8, 4096, 1_000_000_000]);
-            assert!(rt; !run.guest.raw);
-            assert_eq!(rt; run.input, Some("keys.txt"));
-            assert_eq!(rt; run.seed, Some(u32::MAX));
-        }
-        other => panic!(rt; "{other:?}"),
-    }
-    Ok(())
-}
-
-#[test]
-fn asm_and_dis_take_their_files(rt: HostRuntime) -> Result<(), Fail> {
-    match parse_args(rt.alloc(), &["rvmove", "asm", "hello.s", "hello.elf"])?.arguments {
-        Arguments::Asm(asm) => {
-            assert_eq!(rt; asm.source, "hello.s");
-            assert_eq!(rt; asm.output, "hello.elf");
-        }
-        other => panic!(rt; "{other:?}"),
-    }
-    match parse_args(rt.alloc(), &["rvmove", "dis", "--raw", "hello.bin"])?.arguments {
-        Arguments::Dis(dis) => {
-            assert_eq!(rt; dis.image, "hello.bin");
-            assert!(rt; dis.raw);
-        }
-        other => panic!(rt; "{other:?}"),
-    }
-    Ok(())
-}
-
-fn assert_numbers(rt: &impl Abort, run: &RunArguments, want: [u32; 3]) {
-    assert_eq!(rt; [run.guest.harts, run.guest.pages, run.steps], want);
-}
-
-#[test]
-fn debug_takes_a_guest(rt: HostRuntime) -> Result<(), Fail> {
-    match parse_args(
-        rt.alloc(),
-        &["rvmove", "debug", "hello.elf", "--pages", "7"],
-    )?
-    .arguments
-    {
-        Arguments::Debug(debug) => {
-            assert_eq!(rt; debug.guest.image, "hello.elf");
-            assert_eq!(rt; [debug.guest.harts, debug.guest.pages], [1, 7]);
-            assert!(rt; !debug.guest.raw && !debug.extended);
-        }
-        other => panic!(rt; "{other:?}"),
-    }
-    Ok(())
-}
-
-#[test]
-fn a_refusal_is_explained_if_that_is_asked_for(rt: HostRuntime) -> Result<(), Fail> {
-    let plain = parse_args(rt.alloc(), &["rvmove", "tell", "./a.socket"])?;
-    assert!(rt; !plain.explain);
-    let explained = parse_args(rt.alloc(), &["rvmove", "tell", "./a.socket", "--explain"])?;
-    assert!(rt; explained.explain);
-    Ok(())
-}
-
-#[test]
-fn an_audit_takes_up_to_eight_journals(rt: HostRuntime) -> Result<(), Fail> {
-    let words = [
-        "rvmove",
+/// Words that ask for nothing: nine journals, and a replay of two journals to its end.
+static REFUSED: [&[&str]; 2] = [
+    &[
         "audit-journals",
         "--image",
         "i",
@@ -114,69 +117,34 @@ fn an_audit_takes_up_to_eight_journals(rt: HostRuntime) -> Result<(), Fail> {
         "g",
         "h",
         "j",
-    ];
-    match parse_args(rt.alloc(), &words[..12])?.arguments {
-        Arguments::AuditJournals(audit) => {
-            assert_eq!(rt; audit.journals.as_slice(), &words[4..12]);
-            assert_eq!(rt; audit.image, "i");
-            assert!(rt; !audit.order);
-            assert!(rt; audit.chart.is_none());
-        }
-        other => panic!(rt; "{other:?}"),
-    }
-    assert!(rt; parse_args(rt.alloc(), &words).is_err());
-    Ok(())
+    ],
+    &["replay", "a", "b", "--image", "i"],
+];
+
+/// The words of a command line, with the program's name.
+fn with_name(alloc: Global, words: &[&'static str]) -> Result<Vec<&'static str>, AllocError> {
+    let mut named = Vec::with_capacity(alloc, words.len() + 1)?;
+    named.push("rvmove")?;
+    named.extend_from_slice(words)?;
+    Ok(named)
+}
+
+/// What words ask for, as text.
+fn asked(alloc: Global, words: &[&'static str]) -> Result<String, Fail> {
+    let words = again!(with_name(alloc, words));
+    let line = again!(parse_args(alloc, &words));
+    let explained = if line.explain { ", explained" } else { "" };
+    Ok(again!(format!(in alloc; "{:?}{explained}", line.arguments)))
 }
 
 #[test]
-fn a_live_run_has_a_limit_only_if_one_is_given(rt: HostRuntime) -> Result<(), Fail> {
-    let words = ["rvmove", "run", "a.elf", "--input", "-"];
-    match parse_args(rt.alloc(), &words)?.arguments {
-        Arguments::Live(live) => {
-            assert_eq!(rt; live.guest.image, "a.elf");
-            assert_eq!(rt; live.input, Some("-"));
-            assert!(rt; live.steps.is_none() && live.journal.is_none());
-        }
-        other => panic!(rt; "{other:?}"),
+fn words_have_these_values(rt: HostRuntime) -> Result<(), Fail> {
+    for (words, wanted) in ASKED.iter() {
+        assert_eq!(rt; asked(rt.alloc(), words)?.as_str(), *wanted);
     }
-    let words = [
-        "rvmove",
-        "run",
-        "a.elf",
-        "--journal",
-        "a.journal",
-        "--steps",
-        "1000000",
-    ];
-    match parse_args(rt.alloc(), &words)?.arguments {
-        Arguments::Live(live) => {
-            assert_eq!(rt; live.journal, Some("a.journal"));
-            assert_eq!(rt; live.steps, Some(1_000_000));
-            assert!(rt; live.input.is_none());
-        }
-        other => panic!(rt; "{other:?}"),
-    }
-    Ok(())
-}
-
-#[test]
-fn a_replay_of_several_journals_goes_by_turns(rt: HostRuntime) -> Result<(), Fail> {
-    let words = [
-        "rvmove", "replay", "a", "b", "--image", "i", "--turns", "7", "--script", "-",
-    ];
-    match parse_args(rt.alloc(), &words)?.arguments {
-        Arguments::ReplayTurns(replay) => {
-            assert_eq!(rt; replay.journals.as_slice(), &words[2..4]);
-            assert_eq!(rt; replay.image, "i");
-            assert_eq!(rt; replay.turns, 7);
-            assert_eq!(rt; replay.script, "-");
-        }
-        other => panic!(rt; "{other:?}"),
-    }
-    assert!(rt; parse_args(rt.alloc(), &words[..6]).is_err());
-    match parse_args(rt.alloc(), &words[..3])?.arguments {
-        Arguments::Replay(replay) => assert_eq!(rt; replay.journal, "a"),
-        other => panic!(rt; "{other:?}"),
+    for words in REFUSED.iter() {
+        let words = again!(with_name(rt.alloc(), words));
+        assert!(rt; parse_args(rt.alloc(), &words).is_err());
     }
     Ok(())
 }

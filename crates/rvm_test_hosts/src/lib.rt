@@ -10,10 +10,10 @@
 //! To be read in this order: `hosts` plays events on hosts, `replies` writes a reply as a name and numbers, and
 //! `frames` makes a frame of each kind; `rounds` tests rounds over a memory alone, `modes` each command and each kind
 //! of frame in each mode, `declined` a guest that is too large, `strangers` frames that hosts do not wait for, `spent`
-//! the last move number, `worlds` lists of events and driven moves, `scripts` a script that is too long, `streams` the
-//! bytes of a move, cut in two at each place; `records` reads and writes records, `routes` sends frames to hosts, and
-//! `cells` plays events on a host under its lock; `journals` writes the journal of a host; `command_line` and `writers`
-//! test the words and the streams of commands; `names` has the public names that the names of the crates promise.
+//! the last move number, `worlds` lists of events and driven moves, `scripts` a script that is too long; `records` reads
+//! and writes records, `routes` sends frames to hosts, and `cells` plays events on a host under its lock; `journals`
+//! writes the journal of a host; `command_line` and `writers` test the words and the streams of commands; `names` has the
+//! public names that the names of the crates promise.
 #![tactic(auto)]
 
 #[cfg(test)]
@@ -45,8 +45,6 @@ mod scripts;
 mod spent;
 #[cfg(test)]
 mod strangers;
-#[cfg(test)]
-mod streams;
 #[cfg(test)]
 mod worlds;
 #[cfg(test)]

@@ -2,20 +2,12 @@
 
 use crate::hosts::{Event, LOOP, POLICY, again, guest};
 use crate::replies::{Said, said};
-use rvm_board::{BoardEvent, BoardReply, Debugged};
 use rvm_core::{Driven, World, WorldError, WorldReply, drive_move, run_world};
-use rvm_hart::RAM_BASE;
-use rvm_host::{BadSize, Host};
 use rvm_mem::FlatMemory;
-use rvm_message::{Command, HostReply};
+use rvm_message::Command;
 use std::alloc::Global;
 use std::process::Abort;
 use std::test::Fail;
-
-/// The bytes of RAM in one reply, and the number of such replies for four pages.
-const VIEW: u32 = 256;
-
-const VIEWS: u32 = 64;
 
 /// A world whose first host has a guest of this many pages that loops.
 pub fn world(
@@ -35,86 +27,15 @@ pub fn world(
     }
 }
 
-/// Plays an event. If memory runs out, checks that the world is as before, and repeats the event. Returns the reply,
-/// and the place of the frame that was made, if one was.
+/// Plays an event, and repeats it if memory runs out. Returns the reply, and the place of the frame that was made, if one
+/// was.
 fn turn(
     alloc: Global,
     world: &mut World<FlatMemory>,
     event: &rvm_core::Event,
 ) -> Result<(Said, Option<usize>), Fail> {
-    let before = digest(alloc, world)?;
-    let reply = match world.apply(alloc, event) {
-        Ok(reply) => reply,
-        Err(_) => {
-            if digest(alloc, world)? != before {
-                return Err(Fail::from("a refused growth changed the world"));
-            }
-            world.apply(alloc, event)?
-        }
-    };
+    let reply = again!(world.apply(alloc, event));
     Ok((said(&reply.reply), reply.frame))
-}
-
-/// A number over all that a world shows: the host of its guest, the bytes of each frame, and at each host what
-/// registers the guest has and what its first four pages have. Takes no memory.
-fn digest(alloc: Global, world: &mut World<FlatMemory>) -> Result<u64, Fail> {
-    let mut sum = u64::from(world.current());
-    for place in 0..world.sent() {
-        if let Some(bytes) = world.frame(place) {
-            sum = sum_bytes(sum, bytes);
-        }
-    }
-    for host in 0..world.hosts() {
-        sum = more(sum, guest_digest(alloc, world, host)?);
-    }
-    Ok(sum)
-}
-
-/// A number over what the guest at this host shows, or over the refusals if there is none.
-fn guest_digest(alloc: Global, world: &mut World<FlatMemory>, host: u8) -> Result<u64, Fail> {
-    let mut sum = event_digest(alloc, world, host, BoardEvent::Regs(0))?;
-    for view in 0..VIEWS {
-        let event = BoardEvent::Mem {
-            address: RAM_BASE.wrapping_add(view * VIEW),
-            length: VIEW,
-        };
-        sum = more(sum, event_digest(alloc, world, host, event)?);
-    }
-    Ok(sum)
-}
-
-/// A number over the reply of a host to an event of its guest.
-fn event_digest(
-    alloc: Global,
-    world: &mut World<FlatMemory>,
-    host: u8,
-    event: BoardEvent,
-) -> Result<u64, Fail> {
-    let reply = world.apply(alloc, &rvm_core::Event::At(host, Command::Board(event)))?;
-    Ok(reply_digest(&reply.reply))
-}
-
-/// A number over a reply.
-fn reply_digest(reply: &HostReply) -> u64 {
-    match reply {
-        HostReply::Board(BoardReply::Regs(registers)) => registers
-            .iter()
-            .fold(1, |sum, register| more(sum, u64::from(*register))),
-        HostReply::Board(BoardReply::Bytes(bytes)) => sum_bytes(2, bytes.as_slice()),
-        reply => said(reply).1[0],
-    }
-}
-
-/// A number over others and these bytes.
-fn sum_bytes(sum: u64, bytes: &[u8]) -> u64 {
-    bytes
-        .iter()
-        .fold(sum, |sum, byte| more(sum, u64::from(*byte)))
-}
-
-/// A number over others and one more.
-fn more(sum: u64, number: u64) -> u64 {
-    sum.wrapping_mul(0x0000_0100_0000_01B3).wrapping_add(number)
 }
 
 /// The reply to an event.
@@ -134,154 +55,6 @@ fn assert_answer(
     Ok(())
 }
 
-/// Whether a world of hosts with these limits is made, or refused for its size.
-fn is_made(alloc: Global, limits: &[u16], version: u32) -> Result<bool, Fail> {
-    let guest = guest(alloc, 1, &[LOOP])?;
-    let made = match World::with_version(alloc, guest, limits, version) {
-        Err((WorldError::OutOfMemory, guest)) => World::with_version(alloc, guest, limits, version),
-        made => made,
-    };
-    match made {
-        Ok(world) => {
-            drop(world);
-            Ok(true)
-        }
-        Err(refused) => {
-            let error = refused.0;
-            drop(refused);
-            match error {
-                WorldError::BadSize => Ok(false),
-                WorldError::OutOfMemory => Err(Fail::from(error)),
-            }
-        }
-    }
-}
-
-/// The version that a new world of hosts with these limits speaks; none if it is refused, and the guest comes back.
-fn world_version(alloc: Global, limits: &[u16]) -> Result<Option<u32>, Fail> {
-    let guest = guest(alloc, 1, &[LOOP])?;
-    let made = match World::new(alloc, guest, limits) {
-        Err((WorldError::OutOfMemory, guest)) => World::new(alloc, guest, limits),
-        made => made,
-    };
-    match made {
-        Ok(world) => {
-            let version = world.version();
-            drop(world);
-            Ok(Some(version))
-        }
-        Err(refused) => no_world(refused),
-    }
-}
-
-/// No version, if a world was refused for its size and its guest came back.
-fn no_world(refused: (WorldError, Debugged<FlatMemory>)) -> Result<Option<u32>, Fail> {
-    let (error, mut guest) = refused;
-    let version = match error {
-        WorldError::BadSize => came_back(&mut guest),
-        _ => Err(Fail::from(error)),
-    };
-    drop(guest);
-    version
-}
-
-/// The version that a new host of this many speaks; none if it is refused, and the guest comes back.
-fn host_version(alloc: Global, count: u8, limit: u16) -> Result<Option<u32>, Fail> {
-    let guest = guest(alloc, 1, &[LOOP])?;
-    match Host::new(Some(guest), 0, count, limit) {
-        Ok(host) => {
-            let version = host.version();
-            drop(host);
-            Ok(Some(version))
-        }
-        Err(refused) => no_version(refused),
-    }
-}
-
-/// No version, if a host was refused and its guest came back.
-fn no_version(refused: (BadSize, Option<Debugged<FlatMemory>>)) -> Result<Option<u32>, Fail> {
-    let mut refused = refused;
-    let version = match &mut refused.1 {
-        Some(guest) => came_back(guest),
-        None => Err(Fail::from("the guest comes back")),
-    };
-    drop(refused);
-    version
-}
-
-/// No version; the guest that came back loops as before.
-fn came_back(guest: &mut Debugged<FlatMemory>) -> Result<Option<u32>, Fail> {
-    match guest.apply(BoardEvent::Step(0)) {
-        BoardReply::Retired => Ok(None),
-        _ => Err(Fail::from("the guest that came back loops")),
-    }
-}
-
-/// The limits of hosts and a version, and whether a world of them is made.
-static MADE: [(&[u16], u32, bool); 9] = [
-    (&[4, 4], 1, true),
-    (&[4, 4], 3, true),
-    (&[4, 4], 4, false),
-    (&[4], 1, false),
-    (&[4, 4, 4], 3, true),
-    (&[4, 4, 4], 2, false),
-    (&[4, 0], 1, false),
-    (&[4, 4097], 1, false),
-    (&[4, 4, 4, 4, 4, 4, 4, 4, 4], 3, false),
-];
-
-/// The limits of hosts, and the version that a new world of them speaks.
-static WORLDS: [(&[u16], Option<u32>); 7] = [
-    (&[4, 4], Some(1)),
-    (&[1, 4096], Some(1)),
-    (&[4, 4, 4], Some(3)),
-    (&[4, 4, 4, 4, 4, 4, 4, 4], Some(3)),
-    (&[4, 0], None),
-    (&[4, 4097], None),
-    (&[4, 4, 4, 4, 4, 4, 4, 4, 4], None),
-];
-
-/// How many hosts there are and a host's limit, and the version that a new one speaks.
-static HOSTS: [(u8, u16, Option<u32>); 6] = [
-    (2, 4, Some(1)),
-    (3, 4, Some(3)),
-    (8, 4096, Some(3)),
-    (2, 0, None),
-    (2, 4097, None),
-    (9, 4, None),
-];
-
-/// Asserts that of the worlds of `MADE` just those are made that can be.
-fn assert_made(rt: &impl Abort, alloc: Global) -> Result<(), Fail> {
-    for (limits, version, made) in &MADE {
-        assert_eq!(rt; is_made(alloc, *limits, *version)?, *made);
-    }
-    Ok(())
-}
-
-/// Asserts that new worlds speak the versions of `WORLDS`.
-fn assert_worlds(rt: &impl Abort, alloc: Global) -> Result<(), Fail> {
-    for (limits, version) in &WORLDS {
-        assert_eq!(rt; world_version(alloc, *limits)?, *version);
-    }
-    Ok(())
-}
-
-/// Asserts that new hosts speak the versions of `HOSTS`.
-fn assert_hosts(rt: &impl Abort, alloc: Global) -> Result<(), Fail> {
-    for (count, limit, version) in &HOSTS {
-        assert_eq!(rt; host_version(alloc, *count, *limit)?, *version);
-    }
-    Ok(())
-}
-
-#[test]
-fn a_world_has_two_to_eight_hosts_of_some_pages(rt: HostRuntime) -> Result<(), Fail> {
-    assert_made(&rt, rt.alloc())?;
-    assert_worlds(&rt, rt.alloc())?;
-    assert_hosts(&rt, rt.alloc())
-}
-
 /// Host 0 begins a move to host 1.
 const BEGIN: rvm_core::Event = rvm_core::Event::At(
     0,
@@ -294,8 +67,8 @@ const BEGIN: rvm_core::Event = rvm_core::Event::At(
 /// Host 0 copies.
 const COPY: rvm_core::Event = rvm_core::Event::At(0, Command::Copy);
 
-/// The events of a move of four pages from host 0 to host 1 up to the commit, in versions 1 and 2.
-pub const FIRST_EVENTS: [rvm_core::Event; 17] = [
+/// The events of a move of four pages from host 0 to host 1 up to the commit.
+const FIRST_EVENTS: [rvm_core::Event; 17] = [
     BEGIN,
     rvm_core::Event::Deliver(0),
     rvm_core::Event::Deliver(1),
@@ -415,10 +188,18 @@ fn is_run(rt: &impl Abort, alloc: Global, world: &mut World<FlatMemory>) -> Resu
     Ok(true)
 }
 
-/// Does the same in a new world.
+/// Does the same in a new world, whose streams have version 1, since there are two hosts.
 fn is_run_anew(rt: &impl Abort, alloc: Global) -> Result<bool, Fail> {
-    let mut world = world(alloc, 4, &[4, 4], 1)?;
-    is_run(rt, alloc, &mut world)
+    match World::new(alloc, guest(alloc, 4, &[LOOP])?, &[4, 4]) {
+        Ok(made) => {
+            let mut world = made;
+            is_run(rt, alloc, &mut world)
+        }
+        Err(refused) => {
+            drop(refused);
+            Ok(false)
+        }
+    }
 }
 
 #[test]

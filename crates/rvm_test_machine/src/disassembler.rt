@@ -195,7 +195,7 @@ static DATA: [(u32, &str); 24] = [
 #[test]
 fn each_row_and_other_words_have_their_texts(rt: HostRuntime) -> Result<(), Fail> {
     let mut written = Vec::new(rt.alloc());
-    for (word, text) in ROWS.iter().chain(&OTHER_ROWS).chain(&DATA) {
+    for (word, text) in ROWS.iter().chain(OTHER_ROWS.iter()).chain(DATA.iter()) {
         written.clear();
         if write_ins(0x80000000, *word, &mut written).is_err() {
             written.clear();

@@ -1,5 +1,5 @@
-//! Frames in each version of a stream: read from bytes and written to the same bytes; streams in pieces of any size;
-//! the first fault of bytes; and when memory is asked for.
+//! Frames in each version of a stream: read from bytes and written to the same bytes; a stream in pieces of any size; the
+//! fault of bytes that are no frame; and when memory is asked for.
 
 ghost use Rattle.std.specs.Prelude.{Some};
 ghost use Rattle.rvm_frame.specs.Grammar.{HasSpelling, sent};
@@ -10,149 +10,60 @@ use rvm_frame::{
     frame_bytes, frame_len, read_frame, write_frame,
 };
 use std::alloc::{AllocError, Global};
-use std::process::Abort;
 use std::test::Fail;
-
-/// Hello of version 1; an offer of 4 pages and 1 hart; the header and numbers of page 2, copy 7.
-static BEFORE_PAGE: [u8; 52] = [
-    0, 0, 0, 0, 0, 0, 0, 0, 0, 4, 0, 0, 0, 1, 0, 0, 0, //
-    1, 1, 0, 0, 0, 0, 0, 0, 0, 3, 0, 0, 0, 4, 0, 1, //
-    4, 1, 0, 0, 0, 0, 0, 0, 0, 6, 16, 0, 0, 2, 0, 7, 0, 0, 0,
-];
-
-/// A state of one page, copy 7, and the byte 255; page 3 is lost; ready.
-static AFTER_PAGE: [u8; 50] = [
-    7, 1, 0, 0, 0, 0, 0, 0, 0, 7, 0, 0, 0, 1, 0, 7, 0, 0, 0, 255, //
-    6, 1, 0, 0, 0, 0, 0, 0, 0, 4, 0, 0, 0, 1, 0, 3, 0, //
-    8, 1, 0, 0, 0, 0, 0, 0, 0, 0, 0, 0, 0,
-];
 
 /// Of version 3, from host 0 to host 2 and back: Hello; page 2 is zero, copy 7; the only piece of a
 /// state with stamp 7; ready.
-static NAMED: [u8; 75] = [
+static STREAM: [u8; 75] = [
     0, 0, 0, 0, 0, 0, 0, 0, 0, 4, 0, 0, 0, 3, 0, 0, 0, //
     12, 0, 2, 1, 0, 0, 0, 0, 0, 0, 0, 6, 0, 0, 0, 2, 0, 7, 0, 0, 0, //
     13, 0, 2, 1, 0, 0, 0, 0, 0, 0, 0, 7, 0, 0, 0, 7, 0, 0, 0, 0, 1, 9, //
     8, 2, 0, 1, 0, 0, 0, 0, 0, 0, 0, 0, 0, 0, 0,
 ];
 
-fn stream(alloc: Global) -> Result<Vec<u8>, AllocError> {
-    let mut bytes = Vec::with_capacity(alloc, 5000)?;
-    bytes.extend_from_slice(&BEFORE_PAGE)?;
-    bytes.extend_from_slice(&[9; 4096])?;
-    bytes.extend_from_slice(&AFTER_PAGE)?;
-    Ok(bytes)
+/// Its frames, each with from and to.
+const STREAM_FRAMES: &str = "\
+None Hello { version: 3 }
+Some((0, 2)) Zero { move_number: 1, page: 2, copy_number: 7 }
+Some((0, 2)) Part { move_number: 1, stamp: 7, part: 0, parts: 1, bytes: Items { items: [9] } }
+Some((2, 0)) Ready { move_number: 1 }
+";
+
+/// A frame and its hosts as a line of text.
+fn words(alloc: Global, received: &Received) -> Result<String, AllocError> {
+    format!(in alloc; "{:?} {:?}\n", received.0, received.1)
 }
 
-/// The place of a frame in the streams, or 0 for one that is in neither.
-fn place(received: &Received) -> u32 {
-    match received.0 {
-        None => unnamed_place(&received.1),
-        Some(hosts) => named_place(hosts, &received.1),
-    }
-}
-
-/// The place of a frame in the stream of version 1, and 9 for Hello of version 3.
-fn unnamed_place(frame: &Frame) -> u32 {
-    match frame {
-        Frame::Hello { version: 1 } => 1,
-        Frame::Hello { version: 3 } => 9,
-        Frame::Offer {
-            move_number: 1,
-            pages: 4,
-            harts: 1,
-        } => 2,
-        Frame::Page {
-            move_number: 1,
-            page: 2,
-            copy_number: 7,
-            bytes,
-        } if bytes.as_array().as_slice() == [9; 4096].as_slice() => 3,
-        Frame::State {
-            move_number: 1,
-            copy_numbers,
-            state,
-        } if copy_numbers.as_slice() == [7u32].as_slice()
-            && state.as_slice() == [255u8].as_slice() => { 4 }
-        Frame::Lost {
-            move_number: 1,
-            pages,
-        } if pages.as_slice() == [3u16].as_slice() => 5,
-        Frame::Ready { move_number: 1 } => 6,
-        _ => 0,
-    }
-}
-
-/// The place of a frame in the stream of version 3, by the hosts that it goes between.
-fn named_place(hosts: (u8, u8), frame: &Frame) -> u32 {
-    match frame {
-        Frame::Zero {
-            move_number: 1,
-            page: 2,
-            copy_number: 7,
-        } if hosts == (0, 2) => 1,
-        Frame::Part {
-            move_number: 1,
-            stamp: 7,
-            part: 0,
-            parts: 1,
-            bytes,
-        } if hosts == (0, 2) && bytes.as_slice() == [9u8].as_slice() => 2,
-        Frame::Ready { move_number: 1 } if hosts == (2, 0) => 3,
-        _ => 0,
-    }
-}
-
-/// Feeds a whole piece, and puts the places of the frames that it ends after those before it, one
-/// decimal digit each.
+/// Feeds a whole piece. Puts the frames that it ends behind those before it, one a line.
 fn feed_piece(
     alloc: Global,
     reader: &mut FrameReader,
     piece: &[u8],
-    before: u32,
-) -> Result<u32, FrameFault> {
-    let mut places = before;
+    frames: &mut String,
+) -> Result<(), Fail> {
     let mut rest = piece;
-    for _ in 0..10 {
-        if !rest.is_empty() {
-            let (taken, received) = again!(reader.feed(alloc, rest));
-            rest = &rest[taken..];
-            if let Some(received) = received {
-                places = places.wrapping_mul(10).wrapping_add(place(&received));
-            }
+    for _ in 0..5 {
+        let (taken, received) = again!(reader.feed(alloc, rest));
+        rest = &rest[taken..];
+        if let Some(received) = received {
+            let line = again!(words(alloc, &received));
+            again!(frames.push_str(line.as_str()));
         }
-    }
-    Ok(places)
-}
-
-#[test]
-fn the_frames_come_in_any_pieces(rt: HostRuntime) -> Result<(), Fail> {
-    let stream = again!(stream(rt.alloc()));
-    for size in [1, 5, 64, 5000] {
-        let mut reader = FrameReader::new(rt.alloc());
-        let mut places = 0;
-        for piece in stream.as_slice().chunks(size) {
-            places = feed_piece(rt.alloc(), &mut reader, piece, places)?;
-        }
-        assert_eq!(rt; places, 123456, "in pieces of {size} bytes");
-        assert_eq!(rt; reader.version(), Some(1));
     }
     Ok(())
 }
 
 #[test]
-fn a_stream_may_be_cut_anywhere(rt: HostRuntime) -> Result<(), Fail> {
-    // Hello; an offer of 4 pages and 1 hart; page 3 is lost; ready.
-    let mut unnamed = again!(Vec::with_capacity(rt.alloc(), 63));
-    again!(unnamed.extend_from_slice(&BEFORE_PAGE[..33]));
-    again!(unnamed.extend_from_slice(&AFTER_PAGE[20..]));
-    for (stream, wanted) in [(unnamed.as_slice(), 1256), (NAMED.as_slice(), 9123)] {
-        for cut in 0..=stream.len() {
-            let (front, back) = stream.split_at(cut);
-            let mut reader = FrameReader::new(rt.alloc());
-            let places = feed_piece(rt.alloc(), &mut reader, front, 0)?;
-            assert_eq!(rt; feed_piece(rt.alloc(), &mut reader, back, places)?, wanted);
+fn the_frames_come_in_any_pieces(rt: HostRuntime) -> Result<(), Fail> {
+    let alloc = rt.alloc();
+    for size in [1, 5, 64, 75] {
+        let mut reader = FrameReader::new(alloc);
+        let mut frames = String::new(alloc);
+        for piece in STREAM.chunks(size) {
+            feed_piece(alloc, &mut reader, piece, &mut frames)?;
         }
+        assert_eq!(rt; frames.as_str(), STREAM_FRAMES, "in pieces of {size} bytes");
+        assert_eq!(rt; reader.version(), Some(3));
     }
     Ok(())
 }
@@ -227,57 +138,6 @@ fn bytes_of_no_frame_are_refused_before_memory_is(rt: HostRuntime) -> Result<(),
             Err(ReadFault::BadFrame)
         )
     );
-    Ok(())
-}
-
-#[test]
-fn a_stream_that_was_refused_stays_so(rt: HostRuntime) -> Result<(), Fail> {
-    let alloc = rt.alloc();
-    // The header of the body that is too long in version 2, after Hello.
-    let header = REFUSED[5].1;
-    let mut reader = FrameReader::new(alloc);
-    again!(reader.feed(alloc, &[0, 0, 0, 0, 0, 0, 0, 0, 0, 4, 0, 0, 0, 2, 0, 0, 0]));
-    assert_eq!(rt; again!(reader.feed(alloc, &header[..12])).0, 12);
-    assert_eq!(rt;
-        reader.feed(alloc, &header[12..]).err(),
-        Some(FrameFault::TooLong)
-    );
-    // A whole frame after it is refused too.
-    assert_eq!(rt;
-        reader.feed(alloc, &AFTER_PAGE[37..]).err(),
-        Some(FrameFault::Failed)
-    );
-    assert_eq!(rt; reader.feed(alloc, &[]).err(), Some(FrameFault::Failed));
-    Ok(())
-}
-
-/// Bytes after Hello of version 1 that are no frame from the last one on: a kind of another version, a second Hello,
-/// Ready with a body of one byte, and the pages 3 and 3 that are lost.
-static NO_FRAME: [&[u8]; 4] = [
-    &[12],
-    &[0],
-    &[8, 1, 0, 0, 0, 0, 0, 0, 0, 1, 0, 0, 0],
-    &[6, 1, 0, 0, 0, 0, 0, 0, 0, 6, 0, 0, 0, 2, 0, 3, 0, 3, 0],
-];
-
-#[test]
-fn a_stream_is_refused_at_the_byte_that_makes_it_none(rt: HostRuntime) -> Result<(), Fail> {
-    let alloc = rt.alloc();
-    for bytes in NO_FRAME.iter() {
-        let mut reader = FrameReader::new(alloc);
-        again!(reader.feed(alloc, &[0, 0, 0, 0, 0, 0, 0, 0, 0, 4, 0, 0, 0, 1, 0, 0, 0]));
-        let last = bytes.len().saturating_sub(1);
-        for byte in &bytes[..last] {
-            let (taken, received) = again!(reader.feed(alloc, &[*byte]));
-            assert_eq!(rt; (taken, received.is_none()), (1, true), "{bytes:?}");
-        }
-        assert_eq!(rt;
-            reader.feed(alloc, &bytes[last..]).err(),
-            Some(BAD),
-            "{bytes:?}"
-        );
-        assert_eq!(rt; reader.feed(alloc, &[0]).err(), Some(FrameFault::Failed));
-    }
     Ok(())
 }
 
@@ -375,11 +235,6 @@ static KINDS: [(u32, &str, &str); 18] = [
     ),
 ];
 
-/// A frame and its hosts as text.
-fn words(alloc: Global, received: &Received) -> Result<String, AllocError> {
-    format!(in alloc; "{:?} {:?}", received.0, received.1)
-}
-
 /// The frame that bytes are, and its hosts, as text.
 fn read_words(alloc: Global, version: u32, bytes: &[u8]) -> Result<String, Fail> {
     let received = again!(read_frame(alloc, version, bytes));
@@ -391,7 +246,10 @@ fn each_kind_is_read_by_its_bytes(rt: HostRuntime) -> Result<(), Fail> {
     let alloc = rt.alloc();
     for (version, digits, wanted) in KINDS.iter() {
         let bytes = again!(hex::decode(alloc, digits));
-        assert_eq!(rt; read_words(alloc, *version, &bytes)?.as_str(), *wanted);
+        assert_eq!(rt;
+            read_words(alloc, *version, &bytes)?.as_str().trim_end(),
+            *wanted
+        );
     }
     Ok(())
 }
@@ -424,7 +282,7 @@ fn frames_are_written_by_their_bytes(rt: HostRuntime) -> Result<(), Fail> {
         to: 2,
         frame,
     };
-    assert!(rt; written(alloc, 3, &hello)?.as_slice() == &NAMED[..17]);
+    assert!(rt; written(alloc, 3, &hello)?.as_slice() == &STREAM[..17]);
     let frame = Frame::Zero {
         move_number: 1,
         page: 2,
@@ -435,7 +293,7 @@ fn frames_are_written_by_their_bytes(rt: HostRuntime) -> Result<(), Fail> {
         to: 2,
         frame,
     };
-    assert!(rt; written(alloc, 3, &zero)?.as_slice() == &NAMED[17..38]);
+    assert!(rt; written(alloc, 3, &zero)?.as_slice() == &STREAM[17..38]);
     assert_eq!(rt; written(alloc, 2, &zero)?.len(), 19);
     Ok(())
 }
@@ -467,96 +325,12 @@ fn a_frame_is_copied_written_and_read(rt: HostRuntime) -> Result<(), Fail> {
     Ok(())
 }
 
-/// How many items a list of a frame has, and the last of them.
-fn last_of(received: &Received) -> (usize, u32) {
-    match &received.1 {
-        Frame::Lost { pages, .. } => match pages.as_slice() {
-            [.., last] => (pages.as_slice().len(), u32::from(*last)),
-            [] => (0, 0),
-        },
-        Frame::State { state, .. } => match state.as_slice() {
-            [.., last] => (state.as_slice().len(), u32::from(*last)),
-            [] => (0, 0),
-        },
-        _ => (0, 0),
-    }
-}
-
-/// What `last_of` tells of the one frame after Hello of version 1, in pieces of 1000 bytes.
-fn last_fed(alloc: Global, bytes: &[u8]) -> Result<(usize, u32), FrameFault> {
-    let mut reader = FrameReader::new(alloc);
-    again!(reader.feed(alloc, &BEFORE_PAGE[..17]));
-    for piece in bytes.chunks(1000) {
-        if let (_, Some(received)) = again!(reader.feed(alloc, piece)) {
-            return Ok(last_of(&received));
-        }
-    }
-    Ok((0, 0))
-}
-
-/// Lost of move 1: all of 4096 pages.
-fn lost_of_all_pages(alloc: Global) -> Result<Vec<u8>, AllocError> {
-    let mut bytes = Vec::with_capacity(alloc, 8207)?;
-    bytes.extend_from_slice(&[6, 1, 0, 0, 0, 0, 0, 0, 0, 2, 32, 0, 0, 0, 16])?;
-    for page in 0u16..4096 {
-        bytes.extend_from_slice(&[(page % 256) as u8, (page / 256) as u8])?;
-    }
-    Ok(bytes)
-}
-
-/// State of move 1 with a body of 30000 bytes: one page with copy 7, and 29994 bytes of a board.
-fn state_of_many_bytes(alloc: Global) -> Result<Vec<u8>, AllocError> {
-    let mut bytes = Vec::with_capacity(alloc, 30013)?;
-    bytes.extend_from_slice(&[7, 1, 0, 0, 0, 0, 0, 0, 0, 48, 117, 0, 0, 1, 0, 7, 0, 0, 0])?;
-    bytes.resize(30013, 9)?;
-    Ok(bytes)
-}
-
-/// What `last_of` tells of the one frame that the bytes are.
-fn last_read(alloc: Global, bytes: &[u8]) -> Result<(usize, u32), ReadFault> {
-    let received = again!(read_frame(alloc, 1, bytes));
-    Ok(last_of(&received))
-}
-
-/// Reads the one frame that the bytes are, at once and in pieces, and compares what `last_of` tells.
-fn expect_last(
-    rt: &impl Abort,
-    alloc: Global,
-    bytes: Vec<u8>,
-    wanted: (usize, u32),
-) -> Result<(), Fail> {
-    assert_eq!(rt; last_read(alloc, bytes.as_slice())?, wanted);
-    assert_eq!(rt; last_fed(alloc, bytes.as_slice())?, wanted);
-    Ok(())
-}
-
-#[test]
-fn the_longest_lists_are_read(rt: HostRuntime) -> Result<(), Fail> {
-    let alloc = rt.alloc();
-    let lost = again!(lost_of_all_pages(alloc));
-    expect_last(&rt, alloc, lost, (4096, 4095))?;
-    let state = again!(state_of_many_bytes(alloc));
-    expect_last(&rt, alloc, state, (29994, 9))
-}
-
-/// A reader after Hello and the header of a Page.
+/// A reader after Hello of version 1 and the header of a Page.
 fn at_a_page(alloc: Global) -> Result<FrameReader, FrameFault> {
     let mut reader = FrameReader::new(alloc);
-    again!(reader.feed(alloc, &BEFORE_PAGE[..17]));
-    again!(reader.feed(alloc, &BEFORE_PAGE[33..46]));
+    again!(reader.feed(alloc, &[0, 0, 0, 0, 0, 0, 0, 0, 0, 4, 0, 0, 0, 1, 0, 0, 0]));
+    again!(reader.feed(alloc, &[4, 1, 0, 0, 0, 0, 0, 0, 0, 6, 16, 0, 0]));
     Ok(reader)
-}
-
-/// How many of these bytes are taken, and the place of the frame that they end, or 0 if they end none.
-fn feed_once(
-    alloc: Global,
-    reader: &mut FrameReader,
-    bytes: &[u8],
-) -> Result<(usize, u32), FrameFault> {
-    match reader.feed(alloc, bytes)? {
-        (taken, Some(received)) => Ok((taken, place(&received))),
-        (taken, None) => Ok((taken, 0)),
-    }
 }
 
 #[test]
@@ -564,8 +338,10 @@ fn a_page_takes_memory_once(rt: HostRuntime) -> Result<(), Fail> {
     let alloc = rt.alloc();
     let mut reader = at_a_page(alloc)?;
     // From here on no call takes memory, so none fails, whichever allocation does.
-    feed_once(alloc, &mut reader, &BEFORE_PAGE[46..])?;
-    feed_once(alloc, &mut reader, &[9; 4000])?;
-    assert_eq!(rt; feed_once(alloc, &mut reader, &[9; 96])?, (96, 3));
+    reader.feed(alloc, &[2, 0, 7, 0, 0, 0])?;
+    reader.feed(alloc, &[9; 4000])?;
+    let (taken, received) = reader.feed(alloc, &[9; 96])?;
+    assert_eq!(rt; taken, 96);
+    assert!(rt; matches!(received, Some((None, Frame::Page { page: 2, .. }))));
     Ok(())
 }

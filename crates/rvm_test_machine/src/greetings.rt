@@ -1,7 +1,7 @@
 //! Greetings: what two ends say byte by byte, made by another program, and what is told to an end that does not know
 //! the secret.
 
-use rvm_link::{Facts, GreetingFault, Registry, Secret, accept, greet};
+use rvm_link::{GreetingFault, Registry, Secret, accept, greet};
 use std::test::Fail;
 
 /// The secret of both ends.
@@ -63,25 +63,4 @@ fn a_stranger_is_told_the_opening_alone(rt: HostRuntime) -> Result<(), Fail> {
     assert!(rt; matches!(refused, Err(GreetingFault::WrongSecret)));
     assert!(rt; ACCEPTOR.starts_with(&room));
     Ok(())
-}
-
-#[test]
-fn a_host_is_met_and_not_its_successor(rt: HostRuntime) -> Result<(), Fail> {
-    let mut registry = Registry::new(2, 3, 70, 0);
-    assert_eq!(rt; registry.meet(1, &facts(86)), Ok(()));
-    assert_eq!(rt; registry.facts_for(1).known, 86);
-    assert_eq!(rt;
-        registry.meet(1, &facts(87)),
-        Err(GreetingFault::BeganAnew(1))
-    );
-    Ok(())
-}
-
-/// What a process of world 9 tells.
-fn facts(process: u64) -> Facts {
-    Facts {
-        world: 9,
-        process,
-        known: 0,
-    }
 }

@@ -3,7 +3,7 @@
 use crate::boards::board;
 use crate::retry::again;
 use rvm_debug::{ScriptError, run_script};
-use rvm_frame::{Frame, FrameFault, FrameReader, ReadFault, read_frame};
+use rvm_frame::{Frame, ReadFault, read_frame};
 use std::alloc::Global;
 use std::io::{self, Read};
 use std::test::Fail;
@@ -84,25 +84,5 @@ fn a_body_has_at_most_32768_bytes(rt: HostRuntime) -> Result<(), Fail> {
     assert_eq!(rt; length(&frame), Some(32762));
     let longer = state(rt.alloc(), 32769)?;
     assert!(rt; matches!(read_frame(rt.alloc(), 1, &longer), Err(ReadFault::TooLong)));
-    Ok(())
-}
-
-/// Hello of version 1.
-const HELLO: [u8; 17] = [0, 0, 0, 0, 0, 0, 0, 0, 0, 4, 0, 0, 0, 1, 0, 0, 0];
-/// The header of a state whose body has 32769 bytes.
-const TOO_LONG: [u8; 13] = [7, 1, 0, 0, 0, 0, 0, 0, 0, 1, 128, 0, 0];
-
-#[test]
-fn a_stream_fails_at_byte_13_of_a_frame_that_is_too_long(rt: HostRuntime) -> Result<(), Fail> {
-    let mut reader = FrameReader::new(rt.alloc());
-    again!(reader.feed(rt.alloc(), &HELLO));
-    // The twelve bytes before its last one are no fault, and are taken.
-    let (taken, received) = again!(reader.feed(rt.alloc(), &TOO_LONG[..12]));
-    assert_eq!(rt; (taken, received.is_none()), (12, true));
-    let fault = reader.feed(rt.alloc(), &TOO_LONG[12..]).err();
-    assert_eq!(rt; fault, Some(FrameFault::TooLong));
-    // From then on the reader fails, whatever comes.
-    let fault = reader.feed(rt.alloc(), &HELLO).err();
-    assert_eq!(rt; fault, Some(FrameFault::Failed));
     Ok(())
 }

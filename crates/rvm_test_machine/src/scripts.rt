@@ -1,4 +1,4 @@
-//! How a debugger's script ends that is too long, or whose reader or writer fails.
+//! How a debugger's script ends whose reader or writer fails.
 
 use crate::boards::board;
 use rvm_board::Debugged;
@@ -22,20 +22,6 @@ fn run<M: Memory, W: Write>(
         Err(ScriptError::OutOfMemory) => run_script(alloc, board, &mut &*script, writer),
         end => end,
     }
-}
-
-#[test]
-fn an_endless_script_is_too_long(rt: HostRuntime) -> Result<(), Fail> {
-    let alloc = rt.alloc();
-    let mut board = board(alloc, 1, &[LOOP])?;
-    let mut written = Vec::new(alloc);
-    let mut result = run_script(alloc, &mut board, &mut io::repeat(b'\n'), &mut written);
-    if result == Err(ScriptError::OutOfMemory) {
-        result = run_script(alloc, &mut board, &mut io::repeat(b'\n'), &mut written);
-    }
-    assert_eq!(rt; result, Err(ScriptError::TooLong));
-    assert_eq!(rt; written.len(), 0);
-    Ok(())
 }
 
 /// A reader that gives a line, and then fails.

@@ -104,7 +104,7 @@ const LINKS: [(&str, &[u8], u32, bool); 10] = [
 /// gives bytes, and before the end, `pauses` reads give nothing. Instead of ending it may fail, or give other bytes
 /// again and again. A mute one takes no bytes. It counts reads.
 #[derive(Drop)]
-pub struct Given<'s> {
+struct Given<'s> {
     stream: &'s [u8],
     again: &'s [u8],
     at_once: usize,
@@ -117,7 +117,7 @@ pub struct Given<'s> {
 
 impl<'s> Given<'s> {
     /// A link that gives these bytes, at most this many with each read, and ends.
-    pub fn new(stream: &'s [u8], at_once: usize) -> Given<'s> {
+    fn new(stream: &'s [u8], at_once: usize) -> Given<'s> {
         Given {
             stream,
             again: &[],
@@ -274,7 +274,7 @@ const UNHEARD: Heard = Heard {
 };
 
 /// How a receiver at a new host ends that hears a link.
-pub fn hear<R: AllocGlobal + Wait>(rt: &R, given: &mut Given<'_>) -> WorkEnd {
+fn hear<R: AllocGlobal + Wait>(rt: &R, given: &mut Given<'_>) -> WorkEnd {
     hear_with(rt, 1, MAX_CAPACITY, given).end
 }
 

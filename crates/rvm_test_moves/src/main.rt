@@ -1,12 +1,11 @@
-//! Moves guests over TCP, past a gate at which two workers meet, over a link without end, and over links that fail, and
-//! prints what became of each; plays the order of a move as a script; and prints how receivers end, by what their links
-//! give, how copiers wait, and how the turns of a paused guest are tried. Then runs two hosts as processes have them, in
-//! threads of this program, over connections of this machine that break, with operators who tell them what to do: prints
-//! whether the guest ran as on one board that never moves, and what the operators were answered.
+//! Moves guests over TCP, past a gate at which two workers meet, and over links that fail, and prints what became of each;
+//! plays the order of a move as a script; and prints how receivers end, by what their links give, how copiers wait, and how
+//! the turns of a paused guest are tried. Then runs two hosts as processes have them, in threads of this program, over
+//! connections of this machine that break, with operators who tell them what to do: prints whether the guest ran as on one
+//! board that never moves, and what the operators were answered.
 //!
-//! To be read in this order: `asked`, `ended`, `live`, `greeting`, `stranger`, `counting`, `meeting`, `audited`,
-//! `endless`, `hearing`, `cut`, `waiting`, `between`, `printing`, `broken`, `failing`; `guest`, `screen`, `breaker`,
-//! `operator`, `farm`, `scenes`.
+//! To be read in this order: `asked`, `ended`, `live`, `greeting`, `stranger`, `counting`, `meeting`, `audited`, `hearing`,
+//! `waiting`, `between`, `printing`, `broken`, `failing`; `guest`, `screen`, `breaker`, `operator`, `farm`, `scenes`.
 #![tactic(auto)]
 
 mod asked;
@@ -15,9 +14,7 @@ mod between;
 mod breaker;
 mod broken;
 mod counting;
-mod cut;
 mod ended;
-mod endless;
 mod failing;
 mod farm;
 mod greeting;
@@ -40,9 +37,7 @@ fn main(rt: HostRuntime) -> anyhow::Result<()> {
     stranger::meet_a_stranger(&rt)?;
     meeting::meet(&rt)?;
     audited::play_order(&rt)?;
-    endless::hear_without_end(&rt)?;
     hearing::hear_links(&rt)?;
-    cut::cut_a_stream(&rt)?;
     waiting::wait_for_answers(&rt)?;
     between::try_turns(&rt)?;
     printing::print_much(&rt)?;

@@ -1,13 +1,11 @@
 //! `rvm_test_program FILE..` makes transcripts of `rvmove` anew. A line `$ rvmove WORDS..` of a FILE is a command; its
 //! standard input is the file after `<`, or else the lines `> TEXT` below it. After the command stand what it wrote to
 //! standard output and to standard error, and its status if that is not 0. What goes to a file after ` > ` or ` 2> ` is
-//! written there instead. Each command is done over both memories of a guest, and a line after it says so if they
-//! differ in what is printed. Three more commands look at such a file: `$ cat FILE` prints it, `$ grep -c WORD FILE`
-//! prints how many lines of it contain the word, and `$ drained FILE` prints the bytes of its lines `out N HEX`. All
-//! other lines are kept.
+//! written there instead. Three more commands look at such a file: `$ cat FILE` prints it, `$ grep -c WORD FILE` prints
+//! how many lines of it contain the word, and `$ drained FILE` prints the bytes of its lines `out N HEX`. All other lines
+//! are kept.
 #![tactic(auto)]
 
-use rvm_mem::{FlatMemory, PagedMemory};
 use rvm_paged::PagedRam;
 use rvm_program::{System, perform};
 use std::io::{self, Write};
@@ -133,8 +131,7 @@ struct Targets<'a> {
     errors: Option<&'a str>,
 }
 
-/// Does what the words of a command ask for, over both memories, and prints what it wrote, or puts it into a file.
-/// Prints a line if the two differ in what is printed.
+/// Does what the words of a command ask for, and prints what it wrote, or puts it into a file.
 fn perform_and_print<R: System + Print + Net + Threads + Wait + 'static>(
     rt: &R,
     command: &str,
@@ -147,15 +144,19 @@ where
     R::File: Send,
 {
     let words: Vec<&str> = command.split_whitespace().collect(rt.alloc())?;
-    let flat = perform_over::<FlatMemory, R>(rt, words.as_slice(), input);
-    let paged = perform_over::<PagedRam, R>(rt, words.as_slice(), input);
-    put(rt, &paged.output, targets.output)?;
-    put(rt, &paged.errors, targets.errors)?;
-    if paged.status != 0 {
-        println!(rt; "status {}", paged.status)?;
-    }
-    if !paged.is_as(&flat, targets) {
-        println!(rt; "over a flat memory it does something else")?;
+    let (mut output, mut errors) = (Vec::new(rt.alloc()), Vec::new(rt.alloc()));
+    let mut input = input;
+    let status = perform::<PagedRam, R, _, _, _, _>(
+        rt,
+        words.as_slice(),
+        &mut input,
+        &mut output,
+        &mut errors,
+    );
+    put(rt, &output, targets.output)?;
+    put(rt, &errors, targets.errors)?;
+    if status != 0 {
+        println!(rt; "status {status}")?;
     }
     Ok(())
 }
@@ -167,42 +168,4 @@ fn put<R: Files + Print>(rt: &R, bytes: &[u8], target: Option<&str>) -> anyhow::
         Some(file) => fs::write(rt, file, bytes)?,
     }
     Ok(())
-}
-
-/// What a command wrote, and its status.
-#[derive(Drop)]
-struct Performed {
-    output: Vec<u8>,
-    errors: Vec<u8>,
-    status: u8,
-}
-
-impl Performed {
-    /// Whether another one wrote the same to what is printed, with the same status.
-    fn is_as(&self, other: &Performed, targets: Targets<'_>) -> bool {
-        (targets.output.is_some() || self.output.as_slice() == other.output.as_slice())
-            && (targets.errors.is_some() || self.errors.as_slice() == other.errors.as_slice())
-            && self.status == other.status
-    }
-}
-
-/// Does what the words of a command ask for, over a memory.
-fn perform_over<M: PagedMemory + Drop + Send + 'static, R: System + Net + Threads + Wait + 'static>(
-    rt: &R,
-    words: &[&str],
-    input: &[u8],
-) -> Performed
-where
-    R::Stream: Send,
-    R::Listener: Send + Sync,
-    R::File: Send,
-{
-    let (mut output, mut errors) = (Vec::new(rt.alloc()), Vec::new(rt.alloc()));
-    let mut input = input;
-    let status = perform::<M, R, _, _, _, _>(rt, words, &mut input, &mut output, &mut errors);
-    Performed {
-        output,
-        errors,
-        status,
-    }
 }
