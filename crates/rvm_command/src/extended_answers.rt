@@ -80,9 +80,9 @@ impl fmt::Display for Flag {
 
     fn fmt<W: fmt::Write>(&self, f: &mut fmt::Formatter<W>) -> fmt::Result {
         if self.0 {
-            write!(f, "1")
+            f.write_str("1")
         } else {
-            write!(f, "0")
+            f.write_str("0")
         }
     }
 }
@@ -316,7 +316,7 @@ impl fmt::Display for Stopped {
     fn fmt<W: fmt::Write>(&self, f: &mut fmt::Formatter<W>) -> fmt::Result {
         let hart = self.hart;
         match self.stop {
-            None => write!(f, "done"),
+            None => f.write_str("done"),
             Some(Stop::Break(address)) => write!(f, "hart {hart} break {}", Digits(address)),
             Some(Stop::Halted(status)) => write!(f, "halted {status}"),
         }

@@ -75,6 +75,9 @@ const MAX_BANDWIDTH: u32 = 1_000_000;
 const LIVE_EXCLUDES: &str = "\
 --journal and --input - exclude --order, --stop-at-fault, --trace, --signature, --coverage, --profile and --save";
 
+/// What is said if no command is named.
+const MISSING: &str = "a command is missing";
+
 /// What is said if `run --orders` is given what has no meaning in it.
 const ORDERS_EXCLUDE: &str =
     "--orders excludes --trace, --signature, --coverage, --profile and --save";
@@ -158,20 +161,28 @@ fn read_matches<'a>(matches: &ArgMatches<'a>) -> Result<Arguments<'a>, &'static 
     ensures { IfOk result (IsAsked (subcommand_rows_of matches.now)) }
 {
     match matches.subcommand() {
-        Some(("run", run)) => read_run(run),
-        Some(("asm", asm)) => read_asm(asm),
-        Some(("dis", dis)) => read_dis(dis),
-        Some(("debug", debug)) => read_debug(debug),
-        Some(("script", script)) => read_script(script),
-        Some(("move", words)) => Ok(Arguments::Move(read_move(words)?)),
-        Some(("audit", words)) => Ok(Arguments::Audit(read_move(words)?)),
-        Some(("host", host)) => Ok(Arguments::Host(read_host(host)?)),
-        Some(("tell", tell)) => Ok(Arguments::Tell(read_tell(tell)?)),
-        Some(("replay", replay)) => read_replay(replay),
-        Some(("audit-journals", words)) => {
-            Ok(Arguments::AuditJournals(read_audit_journals(words)?))
-        }
-        _ => Err("a command is missing"),
+        Some((name, words)) => read_command(name, words),
+        None => Err(MISSING),
+    }
+}
+
+/// The arguments of the command with this name. Fails with a text that says which of them is not what it must be.
+fn read_command<'a>(name: &str, words: &ArgMatches<'a>) -> Result<Arguments<'a>, &'static str>
+    ensures { IfOk result (Gives name.now (rows_of (found_of words.now))) }
+{
+    match name {
+        "run" => read_run(words),
+        "asm" => read_asm(words),
+        "dis" => read_dis(words),
+        "debug" => read_debug(words),
+        "script" => read_script(words),
+        "move" => Ok(Arguments::Move(read_move(words)?)),
+        "audit" => Ok(Arguments::Audit(read_move(words)?)),
+        "host" => Ok(Arguments::Host(read_host(words)?)),
+        "tell" => Ok(Arguments::Tell(read_tell(words)?)),
+        "replay" => read_replay(words),
+        "audit-journals" => Ok(Arguments::AuditJournals(read_audit_journals(words)?)),
+        _ => Err(MISSING),
     }
 }
 

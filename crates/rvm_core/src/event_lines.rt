@@ -25,14 +25,14 @@ impl fmt::Display for Letter {
     fn fmt<W: fmt::Write>(&self, f: &mut fmt::Formatter<W>) -> fmt::Result {
         let host = self.0;
         match host {
-            0 => write!(f, "A"),
-            1 => write!(f, "B"),
-            2 => write!(f, "C"),
-            3 => write!(f, "D"),
-            4 => write!(f, "E"),
-            5 => write!(f, "F"),
-            6 => write!(f, "G"),
-            _ => write!(f, "H"),
+            0 => f.write_str("A"),
+            1 => f.write_str("B"),
+            2 => f.write_str("C"),
+            3 => f.write_str("D"),
+            4 => f.write_str("E"),
+            5 => f.write_str("F"),
+            6 => f.write_str("G"),
+            _ => f.write_str("H"),
         }
     }
 }
@@ -50,7 +50,7 @@ impl fmt::Display for Register {
     fn fmt<W: fmt::Write>(&self, f: &mut fmt::Formatter<W>) -> fmt::Result {
         let number = self.0;
         if number == 32 {
-            write!(f, "pc")
+            f.write_str("pc")
         } else {
             write!(f, "x{number}")
         }

@@ -46,12 +46,12 @@ impl<'a> fmt::Display for InWords<'a> {
 
     fn fmt<W: fmt::Write>(&self, f: &mut fmt::Formatter<W>) -> fmt::Result {
         match self.0 {
-            BoardReply::Retired => write!(f, "retired"),
+            BoardReply::Retired => f.write_str("retired"),
             BoardReply::Trapped(exception) => write!(f, "trapped {}", exception.code()),
             BoardReply::Interrupted(interrupt) => write!(f, "interrupted {}", interrupt.code()),
             BoardReply::Halted(status) => write!(f, "halted {status}"),
             BoardReply::Break(address) => write!(f, "break {}", Digits(*address)),
-            BoardReply::Done => write!(f, "done"),
+            BoardReply::Done => f.write_str("done"),
             BoardReply::Refused(why) => write!(f, "{}", Refusal::from(*why)),
             BoardReply::Bytes(_) | BoardReply::Regs(_) | BoardReply::Line { .. } => Ok(()),
         }

@@ -1,5 +1,5 @@
 -- Instructions that reach registers, RAM and reservations alone, and steps that make them.
-use Rattle.std.specs.Prelude.{◌≡◌, ◌==◌, ℕ, zero, suc, ◌+◌, ◌%◌, ◌^◌, ◌<◌, Bool, true, false, not, ◌&&◌, is_some, List, [], ◌++◌, nat_lt, Option, Some, None}
+use Rattle.std.specs.Prelude.{◌≡◌, ◌==◌, ℕ, zero, suc, ◌+◌, ◌%◌, ◌^◌, ◌<◌, Bool, true, false, not, ◌&&◌, is_some, List, [], ◌++◌, nat_lt, length, IfSome, IfNone, Option, Some, None}
 use Rattle.rvm_mem.specs.Pages.{mark_all}
 use Rattle.rvm_isa.specs.declared.ins.Ins.{Ins}
 use Rattle.rvm_isa.specs.declared.ins.Ins.TheVariants.{Lui, Auipc, Jal, Jalr, Beq, Bne, Blt, Bge, Bltu, Bgeu, Lb, Lh, Lw, Lbu, Lhu, Sb, Sh, Sw, Addi, Slti, Sltiu, Xori, Ori, Andi, Slli, Srli, Srai, Add, Sub, Sll, Slt, Sltu, Xor, Srl, Sra, Or, And, Mul, Mulh, Mulhsu, Mulhu, Div, Divu, Rem, Remu, Fence, FenceI, Ecall, Ebreak, Mret, Wfi, Csrrw, Csrrs, Csrrc, Csrrwi, Csrrsi, Csrrci, LrW, ScW, AmoswapW, AmoaddW, AmoxorW, AmoandW, AmoorW, AmominW, AmomaxW, AmominuW, AmomaxuW}
@@ -55,6 +55,15 @@ pub record Goes (instruction : Machine → Outcome) (pc : ℕ) (old : HartState)
   pub left : machine_after (instruction (machine (at_pc pc old) old_bus)) (machine (at_pc pc old) old_bus)
       ≡ machine (at_pc next new) new_bus
   pub dirty : new_bus.dirty ≡ mark_all (pages_of (instruction (machine (at_pc pc old) old_bus))) old_bus.dirty
+
+-- what a step on the path leaves as it was, which goes on at an offset, or is not made
+pub record LeavesRest (next : Option ℕ) (old : HartState) (old_bus : BusState) (new : HartState) (new_bus : BusState) : Type 0 where
+  pub aligned : IfSome next (λ at. at % 4 ≡ 0)
+  pub hart : IfNone next (new ≡ old)
+  pub bus : IfNone next (new_bus ≡ old_bus)
+  pub csrs : new.csrs ≡ old.csrs
+  pub devices : new_bus.shared.devices ≡ old_bus.shared.devices
+  pub reservations : length new_bus.shared.reservations ≡ length old_bus.shared.reservations
 
 -- whether an instruction reaches registers, RAM and reservations alone; a load or store of a word does if its address
 -- is in RAM

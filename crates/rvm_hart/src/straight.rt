@@ -7,7 +7,7 @@ ghost use Rattle.rvm_word.specs.Word.{modulo};
 ghost use Rattle.rvm_hart.specs.Outcome.{done, done_with, reg};
 ghost use Rattle.rvm_hart.specs.Kinds.{arithmetic, atomic, branch, even, holds, jump, load_byte, load_half, load_reserved, load_word, store_byte, store_conditional, store_half, store_word, sum};
 ghost use Rattle.rvm_hart.specs.Rows.{effect, sign_extended_byte, sign_extended_half, zero_extended};
-ghost use Rattle.rvm_hart.specs.Straight.{DevicesStay, Goes, IsQuiet, all_pass, at_pc, based, is_next, is_offset, is_straight, stays_in_ram, steps, timed_after, went};
+ghost use Rattle.rvm_hart.specs.Straight.{DevicesStay, Goes, IsQuiet, LeavesRest, all_pass, at_pc, based, is_next, is_offset, is_straight, stays_in_ram, steps, timed_after, went};
 ghost use Rattle.rvm_hart.specs.Bus.{in_ram, ram_load};
 ghost use Rattle.rvm_mem.specs.Pages.{mark_all};
 ghost use Rattle.rvm_hart.specs.Step.{execute};
@@ -175,12 +175,7 @@ impl Hart {
         requires at { at % 4 ≡ 0 }
         requires hart { self.old.csrs.hart < length bus.old.shared.reservations }
         ensures goes { IfSome result (λ next. Goes (done_with rd value) (based at) self.old bus.old (based next) self.new bus.new) }
-        ensures aligned { IfSome result (λ next. next % 4 ≡ 0) }
-        ensures hart { IfNone result (self.new ≡ self.old) }
-        ensures bus { IfNone result (bus.new ≡ bus.old) }
-        ensures csrs { self.new.csrs ≡ self.old.csrs }
-        ensures devices { bus.new.shared.devices ≡ bus.old.shared.devices }
-        ensures reservations { length bus.new.shared.reservations ≡ length bus.old.shared.reservations }
+        ensures rest { LeavesRest result self.old bus.old self.new bus.new }
     {
         self.regs[rd.index()] = value;
         self.regs[0] = 0;
@@ -201,12 +196,7 @@ impl Hart {
         requires at { at % 4 ≡ 0 }
         requires hart { self.old.csrs.hart < length bus.old.shared.reservations }
         ensures goes { IfSome result (λ next. Goes (arithmetic operation rd (reg rs1 self.old) (reg rs2 self.old)) (based at) self.old bus.old (based next) self.new bus.new) }
-        ensures aligned { IfSome result (λ next. next % 4 ≡ 0) }
-        ensures hart { IfNone result (self.new ≡ self.old) }
-        ensures bus { IfNone result (bus.new ≡ bus.old) }
-        ensures csrs { self.new.csrs ≡ self.old.csrs }
-        ensures devices { bus.new.shared.devices ≡ bus.old.shared.devices }
-        ensures reservations { length bus.new.shared.reservations ≡ length bus.old.shared.reservations }
+        ensures rest { LeavesRest result self.old bus.old self.new bus.new }
     {
         self.put(rd, operation.of(self.get(rs1), self.get(rs2)), at, bus)
     }
@@ -225,12 +215,7 @@ impl Hart {
         requires at { at % 4 ≡ 0 }
         requires hart { self.old.csrs.hart < length bus.old.shared.reservations }
         ensures goes { IfSome result (λ next. Goes (arithmetic operation rd (reg rs1 self.old) (modulo 32 imm)) (based at) self.old bus.old (based next) self.new bus.new) }
-        ensures aligned { IfSome result (λ next. next % 4 ≡ 0) }
-        ensures hart { IfNone result (self.new ≡ self.old) }
-        ensures bus { IfNone result (bus.new ≡ bus.old) }
-        ensures csrs { self.new.csrs ≡ self.old.csrs }
-        ensures devices { bus.new.shared.devices ≡ bus.old.shared.devices }
-        ensures reservations { length bus.new.shared.reservations ≡ length bus.old.shared.reservations }
+        ensures rest { LeavesRest result self.old bus.old self.new bus.new }
     {
         self.put(rd, operation.of(self.get(rs1), imm.word()), at, bus)
     }
@@ -249,12 +234,7 @@ impl Hart {
         requires at { at % 4 ≡ 0 }
         requires hart { self.old.csrs.hart < length bus.old.shared.reservations }
         ensures goes { IfSome result (λ next. Goes (arithmetic operation rd (reg rs1 self.old) amount) (based at) self.old bus.old (based next) self.new bus.new) }
-        ensures aligned { IfSome result (λ next. next % 4 ≡ 0) }
-        ensures hart { IfNone result (self.new ≡ self.old) }
-        ensures bus { IfNone result (bus.new ≡ bus.old) }
-        ensures csrs { self.new.csrs ≡ self.old.csrs }
-        ensures devices { bus.new.shared.devices ≡ bus.old.shared.devices }
-        ensures reservations { length bus.new.shared.reservations ≡ length bus.old.shared.reservations }
+        ensures rest { LeavesRest result self.old bus.old self.new bus.new }
     {
         self.put(rd, operation.of(self.get(rs1), amount.bits()), at, bus)
     }
@@ -271,12 +251,7 @@ impl Hart {
         requires at { at % 4 ≡ 0 }
         requires hart { self.old.csrs.hart < length bus.old.shared.reservations }
         ensures goes { IfSome result (λ next. Goes (jump rd target) (based at) self.old bus.old (based next) self.new bus.new) }
-        ensures aligned { IfSome result (λ next. next % 4 ≡ 0) }
-        ensures hart { IfNone result (self.new ≡ self.old) }
-        ensures bus { IfNone result (bus.new ≡ bus.old) }
-        ensures csrs { self.new.csrs ≡ self.old.csrs }
-        ensures devices { bus.new.shared.devices ≡ bus.old.shared.devices }
-        ensures reservations { length bus.new.shared.reservations ≡ length bus.old.shared.reservations }
+        ensures rest { LeavesRest result self.old bus.old self.new bus.new }
     {
         if target % 4 != 0 {
             return None;
@@ -298,12 +273,7 @@ impl Hart {
         requires at { at % 4 ≡ 0 }
         requires hart { self.old.csrs.hart < length bus.old.shared.reservations }
         ensures goes { IfSome result (λ next. Goes (jump rd (sum (based at) offset)) (based at) self.old bus.old (based next) self.new bus.new) }
-        ensures aligned { IfSome result (λ next. next % 4 ≡ 0) }
-        ensures hart { IfNone result (self.new ≡ self.old) }
-        ensures bus { IfNone result (bus.new ≡ bus.old) }
-        ensures csrs { self.new.csrs ≡ self.old.csrs }
-        ensures devices { bus.new.shared.devices ≡ bus.old.shared.devices }
-        ensures reservations { length bus.new.shared.reservations ≡ length bus.old.shared.reservations }
+        ensures rest { LeavesRest result self.old bus.old self.new bus.new }
     {
         let Some(target) = moved(at, offset.value()) else {
             return None;
@@ -327,12 +297,7 @@ impl Hart {
         requires at { at % 4 ≡ 0 }
         requires hart { self.old.csrs.hart < length bus.old.shared.reservations }
         ensures goes { IfSome result (λ next. Goes (branch (holds comparison (reg rs1 self.old) (reg rs2 self.old)) offset) (based at) self.old bus.old (based next) self.new bus.new) }
-        ensures aligned { IfSome result (λ next. next % 4 ≡ 0) }
-        ensures hart { IfNone result (self.new ≡ self.old) }
-        ensures bus { IfNone result (bus.new ≡ bus.old) }
-        ensures csrs { self.new.csrs ≡ self.old.csrs }
-        ensures devices { bus.new.shared.devices ≡ bus.old.shared.devices }
-        ensures reservations { length bus.new.shared.reservations ≡ length bus.old.shared.reservations }
+        ensures rest { LeavesRest result self.old bus.old self.new bus.new }
     {
         if !comparison.holds(self.get(rs1), self.get(rs2)) {
             return Some(next_of(at));
@@ -355,12 +320,7 @@ impl Hart {
         requires at { at % 4 ≡ 0 }
         requires hart { self.old.csrs.hart < length bus.old.shared.reservations }
         ensures goes { IfSome result (λ next. Goes (load_byte sign_extended_byte rd address) (based at) self.old bus.old (based next) self.new bus.new) }
-        ensures aligned { IfSome result (λ next. next % 4 ≡ 0) }
-        ensures hart { IfNone result (self.new ≡ self.old) }
-        ensures bus { IfNone result (bus.new ≡ bus.old) }
-        ensures csrs { self.new.csrs ≡ self.old.csrs }
-        ensures devices { bus.new.shared.devices ≡ bus.old.shared.devices }
-        ensures reservations { length bus.new.shared.reservations ≡ length bus.old.shared.reservations }
+        ensures rest { LeavesRest result self.old bus.old self.new bus.new }
     {
         match bus.ram_byte(offset_of(address)) {
             Some(value) => self.put(rd, sext(u32::from(value), 8), at, bus),
@@ -380,12 +340,7 @@ impl Hart {
         requires at { at % 4 ≡ 0 }
         requires hart { self.old.csrs.hart < length bus.old.shared.reservations }
         ensures goes { IfSome result (λ next. Goes (load_byte zero_extended rd address) (based at) self.old bus.old (based next) self.new bus.new) }
-        ensures aligned { IfSome result (λ next. next % 4 ≡ 0) }
-        ensures hart { IfNone result (self.new ≡ self.old) }
-        ensures bus { IfNone result (bus.new ≡ bus.old) }
-        ensures csrs { self.new.csrs ≡ self.old.csrs }
-        ensures devices { bus.new.shared.devices ≡ bus.old.shared.devices }
-        ensures reservations { length bus.new.shared.reservations ≡ length bus.old.shared.reservations }
+        ensures rest { LeavesRest result self.old bus.old self.new bus.new }
     {
         match bus.ram_byte(offset_of(address)) {
             Some(value) => self.put(rd, u32::from(value), at, bus),
@@ -405,12 +360,7 @@ impl Hart {
         requires at { at % 4 ≡ 0 }
         requires hart { self.old.csrs.hart < length bus.old.shared.reservations }
         ensures goes { IfSome result (λ next. Goes (load_half sign_extended_half rd address) (based at) self.old bus.old (based next) self.new bus.new) }
-        ensures aligned { IfSome result (λ next. next % 4 ≡ 0) }
-        ensures hart { IfNone result (self.new ≡ self.old) }
-        ensures bus { IfNone result (bus.new ≡ bus.old) }
-        ensures csrs { self.new.csrs ≡ self.old.csrs }
-        ensures devices { bus.new.shared.devices ≡ bus.old.shared.devices }
-        ensures reservations { length bus.new.shared.reservations ≡ length bus.old.shared.reservations }
+        ensures rest { LeavesRest result self.old bus.old self.new bus.new }
     {
         let place = offset_of(address);
         if place % 2 != 0 {
@@ -434,12 +384,7 @@ impl Hart {
         requires at { at % 4 ≡ 0 }
         requires hart { self.old.csrs.hart < length bus.old.shared.reservations }
         ensures goes { IfSome result (λ next. Goes (load_half zero_extended rd address) (based at) self.old bus.old (based next) self.new bus.new) }
-        ensures aligned { IfSome result (λ next. next % 4 ≡ 0) }
-        ensures hart { IfNone result (self.new ≡ self.old) }
-        ensures bus { IfNone result (bus.new ≡ bus.old) }
-        ensures csrs { self.new.csrs ≡ self.old.csrs }
-        ensures devices { bus.new.shared.devices ≡ bus.old.shared.devices }
-        ensures reservations { length bus.new.shared.reservations ≡ length bus.old.shared.reservations }
+        ensures rest { LeavesRest result self.old bus.old self.new bus.new }
     {
         let place = offset_of(address);
         if place % 2 != 0 {
@@ -464,12 +409,7 @@ impl Hart {
         requires hart { self.old.csrs.hart < length bus.old.shared.reservations }
         ensures goes { IfSome result (λ next. Goes (load_word rd address) (based at) self.old bus.old (based next) self.new bus.new) }
         ensures stays { IfSome result (λ next. in_ram 4 address bus.old.shared.bytes ≡ true) }
-        ensures aligned { IfSome result (λ next. next % 4 ≡ 0) }
-        ensures hart { IfNone result (self.new ≡ self.old) }
-        ensures bus { IfNone result (bus.new ≡ bus.old) }
-        ensures csrs { self.new.csrs ≡ self.old.csrs }
-        ensures devices { bus.new.shared.devices ≡ bus.old.shared.devices }
-        ensures reservations { length bus.new.shared.reservations ≡ length bus.old.shared.reservations }
+        ensures rest { LeavesRest result self.old bus.old self.new bus.new }
     {
         let place = offset_of(address);
         if place % 4 != 0 {
@@ -493,12 +433,7 @@ impl Hart {
         requires at { at % 4 ≡ 0 }
         requires hart { self.old.csrs.hart < length bus.old.shared.reservations }
         ensures goes { IfSome result (λ next. Goes (store_byte address value) (based at) self.old bus.old (based next) self.new bus.new) }
-        ensures aligned { IfSome result (λ next. next % 4 ≡ 0) }
-        ensures hart { IfNone result (self.new ≡ self.old) }
-        ensures bus { IfNone result (bus.new ≡ bus.old) }
-        ensures csrs { self.new.csrs ≡ self.old.csrs }
-        ensures devices { bus.new.shared.devices ≡ bus.old.shared.devices }
-        ensures reservations { length bus.new.shared.reservations ≡ length bus.old.shared.reservations }
+        ensures rest { LeavesRest result self.old bus.old self.new bus.new }
     {
         if !bus.store_byte(self.csrs.hart(), offset_of(address), (value & 0xFF) as u8) {
             return None;
@@ -518,12 +453,7 @@ impl Hart {
         requires at { at % 4 ≡ 0 }
         requires hart { self.old.csrs.hart < length bus.old.shared.reservations }
         ensures goes { IfSome result (λ next. Goes (store_half address value) (based at) self.old bus.old (based next) self.new bus.new) }
-        ensures aligned { IfSome result (λ next. next % 4 ≡ 0) }
-        ensures hart { IfNone result (self.new ≡ self.old) }
-        ensures bus { IfNone result (bus.new ≡ bus.old) }
-        ensures csrs { self.new.csrs ≡ self.old.csrs }
-        ensures devices { bus.new.shared.devices ≡ bus.old.shared.devices }
-        ensures reservations { length bus.new.shared.reservations ≡ length bus.old.shared.reservations }
+        ensures rest { LeavesRest result self.old bus.old self.new bus.new }
     {
         let place = offset_of(address);
         if place % 2 != 0 {
@@ -548,12 +478,7 @@ impl Hart {
         requires hart { self.old.csrs.hart < length bus.old.shared.reservations }
         ensures goes { IfSome result (λ next. Goes (store_word address value) (based at) self.old bus.old (based next) self.new bus.new) }
         ensures stays { IfSome result (λ next. in_ram 4 address bus.old.shared.bytes ≡ true) }
-        ensures aligned { IfSome result (λ next. next % 4 ≡ 0) }
-        ensures hart { IfNone result (self.new ≡ self.old) }
-        ensures bus { IfNone result (bus.new ≡ bus.old) }
-        ensures csrs { self.new.csrs ≡ self.old.csrs }
-        ensures devices { bus.new.shared.devices ≡ bus.old.shared.devices }
-        ensures reservations { length bus.new.shared.reservations ≡ length bus.old.shared.reservations }
+        ensures rest { LeavesRest result self.old bus.old self.new bus.new }
     {
         let place = offset_of(address);
         if place % 4 != 0 {
@@ -578,12 +503,7 @@ impl Hart {
         requires at { at % 4 ≡ 0 }
         requires hart { self.old.csrs.hart < length bus.old.shared.reservations }
         ensures goes { IfSome result (λ next. Goes (store_byte (sum (reg rs1 self.old) imm) (reg rs2 self.old)) (based at) self.old bus.old (based next) self.new bus.new) }
-        ensures aligned { IfSome result (λ next. next % 4 ≡ 0) }
-        ensures hart { IfNone result (self.new ≡ self.old) }
-        ensures bus { IfNone result (bus.new ≡ bus.old) }
-        ensures csrs { self.new.csrs ≡ self.old.csrs }
-        ensures devices { bus.new.shared.devices ≡ bus.old.shared.devices }
-        ensures reservations { length bus.new.shared.reservations ≡ length bus.old.shared.reservations }
+        ensures rest { LeavesRest result self.old bus.old self.new bus.new }
     {
         let address = self.plus(rs1, imm);
         let value = self.get(rs2);
@@ -603,12 +523,7 @@ impl Hart {
         requires at { at % 4 ≡ 0 }
         requires hart { self.old.csrs.hart < length bus.old.shared.reservations }
         ensures goes { IfSome result (λ next. Goes (store_half (sum (reg rs1 self.old) imm) (reg rs2 self.old)) (based at) self.old bus.old (based next) self.new bus.new) }
-        ensures aligned { IfSome result (λ next. next % 4 ≡ 0) }
-        ensures hart { IfNone result (self.new ≡ self.old) }
-        ensures bus { IfNone result (bus.new ≡ bus.old) }
-        ensures csrs { self.new.csrs ≡ self.old.csrs }
-        ensures devices { bus.new.shared.devices ≡ bus.old.shared.devices }
-        ensures reservations { length bus.new.shared.reservations ≡ length bus.old.shared.reservations }
+        ensures rest { LeavesRest result self.old bus.old self.new bus.new }
     {
         let address = self.plus(rs1, imm);
         let value = self.get(rs2);
@@ -629,12 +544,7 @@ impl Hart {
         requires hart { self.old.csrs.hart < length bus.old.shared.reservations }
         ensures goes { IfSome result (λ next. Goes (store_word (sum (reg rs1 self.old) imm) (reg rs2 self.old)) (based at) self.old bus.old (based next) self.new bus.new) }
         ensures stays { IfSome result (λ next. in_ram 4 (sum (reg rs1 self.old) imm) bus.old.shared.bytes ≡ true) }
-        ensures aligned { IfSome result (λ next. next % 4 ≡ 0) }
-        ensures hart { IfNone result (self.new ≡ self.old) }
-        ensures bus { IfNone result (bus.new ≡ bus.old) }
-        ensures csrs { self.new.csrs ≡ self.old.csrs }
-        ensures devices { bus.new.shared.devices ≡ bus.old.shared.devices }
-        ensures reservations { length bus.new.shared.reservations ≡ length bus.old.shared.reservations }
+        ensures rest { LeavesRest result self.old bus.old self.new bus.new }
     {
         let address = self.plus(rs1, imm);
         let value = self.get(rs2);
@@ -647,12 +557,7 @@ impl Hart {
         requires at { at % 4 ≡ 0 }
         requires hart { self.old.csrs.hart < length bus.old.shared.reservations }
         ensures goes { IfSome result (λ next. Goes (done) (based at) self.old bus.old (based next) self.new bus.new) }
-        ensures aligned { IfSome result (λ next. next % 4 ≡ 0) }
-        ensures hart { IfNone result (self.new ≡ self.old) }
-        ensures bus { IfNone result (bus.new ≡ bus.old) }
-        ensures csrs { self.new.csrs ≡ self.old.csrs }
-        ensures devices { bus.new.shared.devices ≡ bus.old.shared.devices }
-        ensures reservations { length bus.new.shared.reservations ≡ length bus.old.shared.reservations }
+        ensures rest { LeavesRest result self.old bus.old self.new bus.new }
     {
         Some(next_of(at))
     }
@@ -669,12 +574,7 @@ impl Hart {
         requires at { at % 4 ≡ 0 }
         requires hart { self.old.csrs.hart < length bus.old.shared.reservations }
         ensures goes { IfSome result (λ next. Goes (load_reserved rd address) (based at) self.old bus.old (based next) self.new bus.new) }
-        ensures aligned { IfSome result (λ next. next % 4 ≡ 0) }
-        ensures hart { IfNone result (self.new ≡ self.old) }
-        ensures bus { IfNone result (bus.new ≡ bus.old) }
-        ensures csrs { self.new.csrs ≡ self.old.csrs }
-        ensures devices { bus.new.shared.devices ≡ bus.old.shared.devices }
-        ensures reservations { length bus.new.shared.reservations ≡ length bus.old.shared.reservations }
+        ensures rest { LeavesRest result self.old bus.old self.new bus.new }
     {
         if address % 4 != 0 {
             return None;
@@ -703,12 +603,7 @@ impl Hart {
         requires at { at % 4 ≡ 0 }
         requires hart { self.old.csrs.hart < length bus.old.shared.reservations }
         ensures goes { IfSome result (λ next. Goes (store_conditional rd address value) (based at) self.old bus.old (based next) self.new bus.new) }
-        ensures aligned { IfSome result (λ next. next % 4 ≡ 0) }
-        ensures hart { IfNone result (self.new ≡ self.old) }
-        ensures bus { IfNone result (bus.new ≡ bus.old) }
-        ensures csrs { self.new.csrs ≡ self.old.csrs }
-        ensures devices { bus.new.shared.devices ≡ bus.old.shared.devices }
-        ensures reservations { length bus.new.shared.reservations ≡ length bus.old.shared.reservations }
+        ensures rest { LeavesRest result self.old bus.old self.new bus.new }
     {
         if address % 4 != 0 {
             return None;
@@ -742,12 +637,7 @@ impl Hart {
         requires at { at % 4 ≡ 0 }
         requires hart { self.old.csrs.hart < length bus.old.shared.reservations }
         ensures goes { IfSome result (λ next. Goes (atomic operation rd address source) (based at) self.old bus.old (based next) self.new bus.new) }
-        ensures aligned { IfSome result (λ next. next % 4 ≡ 0) }
-        ensures hart { IfNone result (self.new ≡ self.old) }
-        ensures bus { IfNone result (bus.new ≡ bus.old) }
-        ensures csrs { self.new.csrs ≡ self.old.csrs }
-        ensures devices { bus.new.shared.devices ≡ bus.old.shared.devices }
-        ensures reservations { length bus.new.shared.reservations ≡ length bus.old.shared.reservations }
+        ensures rest { LeavesRest result self.old bus.old self.new bus.new }
     {
         if address % 4 != 0 {
             return None;
@@ -776,12 +666,7 @@ impl Hart {
         requires at { at % 4 ≡ 0 }
         requires hart { self.old.csrs.hart < length bus.old.shared.reservations }
         ensures goes { IfSome result (λ next. Goes (atomic operation rd (reg rs1 self.old) (reg rs2 self.old)) (based at) self.old bus.old (based next) self.new bus.new) }
-        ensures aligned { IfSome result (λ next. next % 4 ≡ 0) }
-        ensures hart { IfNone result (self.new ≡ self.old) }
-        ensures bus { IfNone result (bus.new ≡ bus.old) }
-        ensures csrs { self.new.csrs ≡ self.old.csrs }
-        ensures devices { bus.new.shared.devices ≡ bus.old.shared.devices }
-        ensures reservations { length bus.new.shared.reservations ≡ length bus.old.shared.reservations }
+        ensures rest { LeavesRest result self.old bus.old self.new bus.new }
     {
         let address = self.get(rs1);
         let source = self.get(rs2);
@@ -801,12 +686,7 @@ impl Hart {
         requires at { at % 4 ≡ 0 }
         requires hart { self.old.csrs.hart < length bus.old.shared.reservations }
         ensures goes { IfSome result (λ next. Goes (store_conditional rd (reg rs1 self.old) (reg rs2 self.old)) (based at) self.old bus.old (based next) self.new bus.new) }
-        ensures aligned { IfSome result (λ next. next % 4 ≡ 0) }
-        ensures hart { IfNone result (self.new ≡ self.old) }
-        ensures bus { IfNone result (bus.new ≡ bus.old) }
-        ensures csrs { self.new.csrs ≡ self.old.csrs }
-        ensures devices { bus.new.shared.devices ≡ bus.old.shared.devices }
-        ensures reservations { length bus.new.shared.reservations ≡ length bus.old.shared.reservations }
+        ensures rest { LeavesRest result self.old bus.old self.new bus.new }
     {
         let address = self.get(rs1);
         let value = self.get(rs2);
@@ -828,12 +708,7 @@ impl Hart {
         requires hart { self.old.csrs.hart < length bus.old.shared.reservations }
         ensures goes { IfSome result (λ next. Goes (effect word ins) (based at) self.old bus.old (based next) self.new bus.new) }
         ensures stays { IfSome result (λ next. stays_in_ram ins (machine (at_pc (based at) self.old) bus.old) ≡ true) }
-        ensures aligned { IfSome result (λ next. next % 4 ≡ 0) }
-        ensures hart { IfNone result (self.new ≡ self.old) }
-        ensures bus { IfNone result (bus.new ≡ bus.old) }
-        ensures csrs { self.new.csrs ≡ self.old.csrs }
-        ensures devices { bus.new.shared.devices ≡ bus.old.shared.devices }
-        ensures reservations { length bus.new.shared.reservations ≡ length bus.old.shared.reservations }
+        ensures rest { LeavesRest result self.old bus.old self.new bus.new }
     {
         match ins {
             Ins::Lui { rd, imm } => self.put(rd, imm.bits() << 12, at, bus),

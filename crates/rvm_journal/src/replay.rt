@@ -45,7 +45,7 @@ impl fmt::Display for JournalFault {
 
     fn fmt<W: fmt::Write>(&self, f: &mut fmt::Formatter<W>) -> fmt::Result {
         match *self {
-            JournalFault::OutOfMemory => write!(f, "out of memory"),
+            JournalFault::OutOfMemory => f.write_str("out of memory"),
             JournalFault::TooLong(most) => write!(f, "more than {most} events"),
             JournalFault::BadLine(number) => write!(f, "line {number}: no line of this journal"),
         }

@@ -48,20 +48,20 @@ impl fmt::Display for FileFault {
 
     fn fmt<W: fmt::Write>(&self, f: &mut fmt::Formatter<W>) -> fmt::Result {
         match *self {
-            FileFault::NoHeader => write!(f, "line 1: no header of a journal"),
+            FileFault::NoHeader => f.write_str("line 1: no header of a journal"),
             FileFault::SameHost(letter) => write!(f, "a second journal of host {letter}"),
-            FileFault::SecondGuest => write!(f, "a second guest"),
-            FileFault::OtherHosts => write!(f, "of another number of hosts"),
-            FileFault::OtherWorld => write!(f, "of another world"),
+            FileFault::SecondGuest => f.write_str("a second guest"),
+            FileFault::OtherHosts => f.write_str("of another number of hosts"),
+            FileFault::OtherWorld => f.write_str("of another world"),
             FileFault::OtherProcess(letter) => { write!(f, "met another process of host {letter}") }
-            FileFault::MetOtherWorld => write!(f, "met a host of another world"),
+            FileFault::MetOtherWorld => f.write_str("met a host of another world"),
             FileFault::NoImage => {
                 write!(
                     f,
                     "the journal begins with a guest, so --image has to name its image"
                 )
             }
-            FileFault::OtherImage => write!(f, "the image is another one"),
+            FileFault::OtherImage => f.write_str("the image is another one"),
             FileFault::Image(refused) => write!(f, "{refused}"),
             FileFault::Journal(fault) => write!(f, "{fault}"),
         }

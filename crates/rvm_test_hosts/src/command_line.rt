@@ -1,6 +1,5 @@
 //! The command line: the values that its words have.
 
-use crate::hosts::again;
 use rvm_command_line::parse_args;
 use std::alloc::{AllocError, Global};
 use std::test::Fail;
@@ -131,10 +130,10 @@ fn with_name(alloc: Global, words: &[&'static str]) -> Result<Vec<&'static str>,
 
 /// What words ask for, as text.
 fn asked(alloc: Global, words: &[&'static str]) -> Result<String, Fail> {
-    let words = again!(with_name(alloc, words));
-    let line = again!(parse_args(alloc, &words));
+    let words = with_name(alloc, words)?;
+    let line = parse_args(alloc, &words)?;
     let explained = if line.explain { ", explained" } else { "" };
-    Ok(again!(format!(in alloc; "{:?}{explained}", line.arguments)))
+    Ok(format!(in alloc; "{:?}{explained}", line.arguments)?)
 }
 
 #[test]
@@ -143,7 +142,7 @@ fn words_have_these_values(rt: HostRuntime) -> Result<(), Fail> {
         assert_eq!(rt; asked(rt.alloc(), words)?.as_str(), *wanted);
     }
     for words in REFUSED.iter() {
-        let words = again!(with_name(rt.alloc(), words));
+        let words = with_name(rt.alloc(), words)?;
         assert!(rt; parse_args(rt.alloc(), &words).is_err());
     }
     Ok(())

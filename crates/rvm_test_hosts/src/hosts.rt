@@ -1,7 +1,7 @@
 //! Plays events on hosts, in order, and keeps every frame that was sent.
 
 use crate::replies::{Said, said};
-use rvm_board::{Board, BoardError, BoardEvent, Debugged};
+use rvm_board::{Board, BoardEvent, Debugged};
 use rvm_frame::{Addressed, Frame};
 use rvm_hart::RAM_BASE;
 use rvm_host::Host;
@@ -63,34 +63,18 @@ pub struct Hosts {
     pub sent: Vec<Addressed>,
 }
 
-/// The value of a call, which is repeated once if it fails.
-macro_rules! again {
-    ($call:expr) => {
-        match $call {
-            Ok(value) => value,
-            Err(_) => $call?,
-        }
-    };
-}
-
-pub(crate) use again;
-
 /// A guest of one hart with this many pages, whose RAM begins with these words.
 pub fn guest(alloc: Global, pages: u32, words: &[u32]) -> Result<Debugged<FlatMemory>, Fail> {
     if pages > MAX_PAGES {
         return Err(Fail::from("a board has at most 4096 pages"));
     }
-    let mut ram = again!(FlatMemory::zeroed(alloc, pages));
+    let mut ram = FlatMemory::zeroed(alloc, pages)?;
     let mut place = 0u32;
     for word in words {
         write_bytes(&mut ram, place, &word.to_le_bytes())?;
         place = place.wrapping_add(4);
     }
-    let made = match Board::new(alloc, 1, ram, RAM_BASE) {
-        Err((BoardError::OutOfMemory, ram)) => Board::new(alloc, 1, ram, RAM_BASE),
-        made => made,
-    };
-    match made {
+    match Board::new(alloc, 1, ram, RAM_BASE) {
         Ok(board) => Ok(Debugged::new(board)),
         Err((error, _)) => Err(Fail::from(error)),
     }
@@ -128,7 +112,7 @@ impl Hosts {
         let Ok(count) = u8::try_from(limits.len()) else {
             return Err(Fail::from(WRONG_COUNT));
         };
-        let mut hosts = again!(Vec::with_capacity(alloc, limits.len()));
+        let mut hosts = Vec::with_capacity(alloc, limits.len())?;
         match fill(alloc, &mut hosts, pages, count, limits) {
             Ok(()) => Ok(Hosts {
                 hosts,
@@ -155,13 +139,12 @@ impl Hosts {
         })
     }
 
-    /// Plays an event, and repeats it if memory runs out. Returns the reply, and the place of the frame that was made,
-    /// if one was.
+    /// Plays an event. Returns the reply, and the place of the frame that was made, if one was.
     pub fn turn(&mut self, alloc: Global, event: Event) -> Result<(Said, Option<usize>), Fail> {
-        let Some((host, event)) = again!(self.meaning(alloc, event)) else {
+        let Some((host, event)) = self.meaning(alloc, event)? else {
             return Err(Fail::from("the frame was sent"));
         };
-        again!(self.sent.reserve(1));
+        self.sent.reserve(1)?;
         let (reply, frame) = answer(alloc, &mut self.hosts, host, &event)?;
         let Some(frame) = frame else {
             return Ok((said(&reply), None));
@@ -185,7 +168,7 @@ impl Hosts {
 
 /// The event that a copy of a frame comes.
 fn came(alloc: Global, from: u8, frame: &Frame) -> Result<HostEvent, Fail> {
-    let frame = again!(shared(alloc, frame));
+    let frame = shared(alloc, frame)?;
     Ok(HostEvent::Came(from, frame))
 }
 
@@ -194,8 +177,7 @@ fn shared(alloc: Global, frame: &Frame) -> Result<Shared<Frame>, AllocError> {
     Ok(Shared::new(alloc, frame.copy(alloc)?)?)
 }
 
-/// Gives a host an event, and repeats it if memory runs out. Returns the reply, and the frame that the host made, if it
-/// made one.
+/// Gives a host an event. Returns the reply, and the frame that the host made, if it made one.
 fn answer(
     alloc: Global,
     hosts: &mut Vec<Host<FlatMemory>>,
@@ -205,5 +187,5 @@ fn answer(
     let Some(host) = hosts.get_mut(usize::from(host)) else {
         return Err(Fail::from("the host is there"));
     };
-    Ok(again!(host.apply(alloc, event)))
+    Ok(host.apply(alloc, event)?)
 }

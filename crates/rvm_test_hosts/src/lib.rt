@@ -1,7 +1,6 @@
 //! Tests of hosts and worlds, of what stands between a host and a connection, and of commands, for what no clause says:
-//! that each event that allocates succeeds, also if it is repeated after an allocation failed (`make faults` makes
-//! allocations fail, one at a time: at most 60 of a test, or, with `MOST=0`, each one); that calls succeed if there are
-//! memory and connections; which bytes are sent; the values of a command line; and what follows from a read or a write
+//! that each event that allocates succeeds, and tells it if an allocation fails (`make faults` makes allocations fail, one
+//! at a time: at most 60 of a test, or, with `MOST=0`, each one); that calls succeed if there are memory and connections; which bytes are sent; the values of a command line; and what follows from a read or a write
 //! that fails. Worked moves are cases (`moves.cases` of `rvm_test_program`).
 //!
 //! Stands on the libraries, which have no tests of their own. The replies and the bytes that it expects are worked out

@@ -1,7 +1,7 @@
 //! Each command and each kind of frame at a host in each mode.
 
 use crate::frames::{KINDS, frame};
-use crate::hosts::{Event, Hosts, again};
+use crate::hosts::{Event, Hosts};
 use rvm_frame::Frame;
 use std::alloc::Global;
 use std::process::Abort;
@@ -239,7 +239,7 @@ fn assert_frames(
     answers: &'static [(u32, &'static str)],
 ) -> Result<(), Fail> {
     for kind in 0..KINDS {
-        let frame = again!(frame(alloc, 1, kind));
+        let frame = frame(alloc, 1, kind)?;
         assert_heard(rt, alloc, place, frame, answer_to(kind, answers))?;
     }
     Ok(())

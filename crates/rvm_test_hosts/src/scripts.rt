@@ -15,10 +15,7 @@ fn assert_too_long(
     world: &mut World<FlatMemory>,
 ) -> Result<(), Fail> {
     let mut written = Vec::new(alloc);
-    let mut end = run_world_script(alloc, world, &mut io::repeat(b'\n'), &mut written);
-    if end == Err(WorldScriptError::OutOfMemory) {
-        end = run_world_script(alloc, world, &mut io::repeat(b'\n'), &mut written);
-    }
+    let end = run_world_script(alloc, world, &mut io::repeat(b'\n'), &mut written);
     assert_eq!(rt; end, Err(WorldScriptError::TooLong));
     assert_eq!(rt; written.len(), 0);
     Ok(())

@@ -1,6 +1,6 @@
 //! A guest that came by the move with the highest number begins no other.
 
-use crate::hosts::{Event, Hosts, again};
+use crate::hosts::{Event, Hosts};
 use crate::modes::MOVE;
 use rvm_frame::Frame;
 use std::alloc::{AllocError, Global};
@@ -65,7 +65,7 @@ fn bring(rt: &impl Abort, alloc: Global, source: &Hosts, hosts: &mut Hosts) -> R
         let Some(sent) = source.sent.get(*place) else {
             return Err(Fail::from("the frame was sent"));
         };
-        let frame = again!(of_the_last_move(alloc, &sent.frame));
+        let frame = of_the_last_move(alloc, &sent.frame)?;
         assert_eq!(rt; hosts.hear(alloc, B, A, frame)?.0, *answer);
     }
     Ok(())

@@ -1,7 +1,7 @@
 //! Frames that a host does not wait for: each kind, of another move, in each mode.
 
 use crate::frames::{KINDS, frame};
-use crate::hosts::{Hosts, again};
+use crate::hosts::Hosts;
 use crate::modes::MOVE;
 use std::alloc::Global;
 use std::process::Abort;
@@ -10,7 +10,7 @@ use std::test::Fail;
 /// The first kind of frame of move 7 that a host does not ignore when another host sends it, if there is one.
 fn first_heard(alloc: Global, hosts: &mut Hosts, host: u8, from: u8) -> Result<Option<u32>, Fail> {
     for kind in 0..KINDS {
-        let frame = again!(frame(alloc, 7, kind));
+        let frame = frame(alloc, 7, kind)?;
         let (name, _) = hosts.hear(alloc, host, from, frame)?;
         if name != "Ignored" {
             return Ok(Some(kind));

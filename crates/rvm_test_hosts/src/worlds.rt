@@ -1,8 +1,8 @@
 //! Worlds: lists of events, and moves that are driven.
 
-use crate::hosts::{Event, LOOP, POLICY, again, guest};
+use crate::hosts::{Event, LOOP, POLICY, guest};
 use crate::replies::{Said, said};
-use rvm_core::{Driven, World, WorldError, WorldReply, drive_move, run_world};
+use rvm_core::{Driven, World, WorldReply, drive_move, run_world};
 use rvm_mem::FlatMemory;
 use rvm_message::Command;
 use std::alloc::Global;
@@ -17,24 +17,19 @@ pub fn world(
     version: u32,
 ) -> Result<World<FlatMemory>, Fail> {
     let guest = guest(alloc, pages, &[LOOP])?;
-    let made = match World::with_version(alloc, guest, limits, version) {
-        Err((WorldError::OutOfMemory, guest)) => World::with_version(alloc, guest, limits, version),
-        made => made,
-    };
-    match made {
+    match World::with_version(alloc, guest, limits, version) {
         Ok(world) => Ok(world),
         Err((error, _)) => Err(Fail::from(error)),
     }
 }
 
-/// Plays an event, and repeats it if memory runs out. Returns the reply, and the place of the frame that was made, if one
-/// was.
+/// Plays an event. Returns the reply, and the place of the frame that was made, if one was.
 fn turn(
     alloc: Global,
     world: &mut World<FlatMemory>,
     event: &rvm_core::Event,
 ) -> Result<(Said, Option<usize>), Fail> {
-    let reply = again!(world.apply(alloc, event));
+    let reply = world.apply(alloc, event)?;
     Ok((said(&reply.reply), reply.frame))
 }
 
@@ -175,107 +170,60 @@ fn last_said(replies: &[WorldReply]) -> Option<Said> {
     replies.last().map(|reply| said(&reply.reply))
 }
 
-/// Runs the events of a move as a list, and then the last ones. Returns whether there was memory for the list.
-fn is_run(rt: &impl Abort, alloc: Global, world: &mut World<FlatMemory>) -> Result<bool, Fail> {
-    let Ok(replies) = run_world(alloc, world, &FIRST_EVENTS) else {
-        return Ok(false);
-    };
-    let last = last_said(&replies);
-    drop(replies);
-    assert_eq!(rt; last, Some(("committed", [1, 0, 0, 0])));
-    assert_answers(rt, alloc, world, &LAST_EVENTS)?;
-    assert_lengths(rt, world);
-    Ok(true)
+/// A world of two hosts that take four pages, the first of which has a guest of four that loops.
+fn new_world(alloc: Global) -> Result<World<FlatMemory>, Fail> {
+    match World::new(alloc, guest(alloc, 4, &[LOOP])?, &[4, 4]) {
+        Ok(world) => Ok(world),
+        Err((error, _)) => Err(Fail::from(error)),
+    }
 }
 
-/// Does the same in a new world, whose streams have version 1, since there are two hosts.
-fn is_run_anew(rt: &impl Abort, alloc: Global) -> Result<bool, Fail> {
-    match World::new(alloc, guest(alloc, 4, &[LOOP])?, &[4, 4]) {
-        Ok(made) => {
-            let mut world = made;
-            is_run(rt, alloc, &mut world)
-        }
-        Err(refused) => {
-            drop(refused);
-            Ok(false)
-        }
-    }
+/// Runs the events of a move as a list, and then the last ones.
+fn run_list(rt: &impl Abort, alloc: Global, world: &mut World<FlatMemory>) -> Result<(), Fail> {
+    let replies = run_world(alloc, world, &FIRST_EVENTS)?;
+    assert_eq!(rt; last_said(&replies), Some(("committed", [1, 0, 0, 0])));
+    assert_answers(rt, alloc, world, &LAST_EVENTS)?;
+    assert_lengths(rt, world);
+    Ok(())
 }
 
 #[test]
 fn a_list_of_events_is_run(rt: HostRuntime) -> Result<(), Fail> {
     assert_eq!(rt; lose_a_copy(rt.alloc())?, None);
-    // At most one allocation fails, so the second list is run to its end.
-    if !is_run_anew(&rt, rt.alloc())? {
-        assert!(rt; is_run_anew(&rt, rt.alloc())?);
-    }
-    Ok(())
-}
-
-/// Whether some host has the guest.
-fn has_guest(alloc: Global, world: &mut World<FlatMemory>) -> Result<bool, Fail> {
-    for host in 0..world.hosts() {
-        if answer(alloc, world, Event::Step(host))?.0 != "NotHere" {
-            return Ok(true);
-        }
-    }
-    Ok(false)
+    let mut world = new_world(rt.alloc())?;
+    run_list(&rt, rt.alloc(), &mut world)
 }
 
 /// The replies after a move.
 static MOVED: [(Event, &str); 2] = [(Event::Step(0), "NotHere"), (Event::Step(1), "retired")];
 
-/// Drives a move that takes this many events. Returns whether there was memory for it; if there was not, asserts that
-/// some host has the guest.
-fn is_driven(
+/// Drives a move that takes this many events.
+fn drive(
     rt: &impl Abort,
     alloc: Global,
     world: &mut World<FlatMemory>,
     events: u32,
-) -> Result<bool, Fail> {
-    let Ok(driven) = drive_move(alloc, world, 0, 1, POLICY) else {
-        assert!(rt; has_guest(alloc, world)?);
-        return Ok(false);
-    };
-    assert_eq!(rt; driven, Driven::Moved(1, events));
-    assert_answers(rt, alloc, world, &MOVED)?;
-    Ok(true)
-}
-
-/// Does the same in a new world of this many pages and this version.
-fn is_moved(rt: &impl Abort, alloc: Global, row: (u32, u32, u32)) -> Result<bool, Fail> {
-    let (pages, version, events) = row;
-    let mut world = world(alloc, pages, &[4096, 4096], version)?;
-    is_driven(rt, alloc, &mut world, events)
+) -> Result<(), Fail> {
+    assert_eq!(rt;
+        drive_move(alloc, world, 0, 1, POLICY)?,
+        Driven::Moved(1, events)
+    );
+    assert_answers(rt, alloc, world, &MOVED)
 }
 
 #[test]
 fn a_move_is_driven_in_each_version(rt: HostRuntime) -> Result<(), Fail> {
-    for row in [
+    for (pages, version, events) in [
         (4, 1, 19),
         (1, 1, 13),
         (4, 2, 19),
         (4, 3, 19),
         (1024, 2, 2061),
     ] {
-        // At most one allocation fails, so the second move arrives.
-        if !is_moved(&rt, rt.alloc(), row)? {
-            assert!(rt; is_moved(&rt, rt.alloc(), row)?);
-        }
+        let mut world = world(rt.alloc(), pages, &[4096, 4096], version)?;
+        drive(&rt, rt.alloc(), &mut world, events)?;
     }
     Ok(())
-}
-
-/// Drives a move, and repeats it if memory runs out.
-fn drive_again(alloc: Global, world: &mut World<FlatMemory>) -> Result<Driven, Fail> {
-    match drive_move(alloc, world, 0, 1, POLICY) {
-        Ok(driven) => Ok(driven),
-        // What was begun is given up, and the move begins anew.
-        Err(_) => {
-            answer(alloc, world, Event::Abort(0))?;
-            Ok(drive_move(alloc, world, 0, 1, POLICY)?)
-        }
-    }
 }
 
 /// Moves that no host can make, and why.
@@ -293,7 +241,7 @@ fn assert_refused(
     world: &mut World<FlatMemory>,
 ) -> Result<(), Fail> {
     for (from, to, reason) in &REFUSED {
-        let driven = again!(drive_move(alloc, world, *from, *to, POLICY));
+        let driven = drive_move(alloc, world, *from, *to, POLICY)?;
         let Driven::Refused(why) = driven else {
             return Err(Fail::from("the move is refused"));
         };
@@ -304,7 +252,10 @@ fn assert_refused(
 
 /// Asserts that a move to host 1 is declined, the guest runs on, and other moves are refused.
 fn assert_stays(rt: &impl Abort, alloc: Global, world: &mut World<FlatMemory>) -> Result<(), Fail> {
-    assert_eq!(rt; drive_again(alloc, world)?, Driven::Declined(3));
+    assert_eq!(rt;
+        drive_move(alloc, world, 0, 1, POLICY)?,
+        Driven::Declined(3)
+    );
     assert_answer(rt, alloc, world, Event::Step(0), "retired")?;
     assert_refused(rt, alloc, world)
 }

@@ -1,6 +1,6 @@
 //! One order of the journals of three hosts, between which a guest moves on.
 
-use crate::asked::{again, came, host_among};
+use crate::asked::{came, host_among};
 use crate::orders::{COPIES, POLICY, made};
 use rvm_audit::{Audit, audit_all};
 use rvm_core::Event;
@@ -39,7 +39,7 @@ fn tell_order<R: AllocGlobal + Print>(
     hosts: &mut Vec<Recorded<PagedRam>>,
 ) -> Option<()> {
     for id in 0..HOSTS {
-        again!(hosts.reserve(1));
+        hosts.reserve(1).ok()?;
         hosts.push(new_host(alloc, id)?).ok()?;
     }
     move_guest(hosts, alloc, 0, 1)?;
@@ -107,7 +107,7 @@ fn tally(alloc: Global, journals: &[&Journal<PagedRam>]) -> Option<(u32, u32)> {
     if journals.len() > usize::from(HOSTS) {
         return None;
     }
-    let Audit::Order(order) = again!(audit_all(alloc, journals)) else {
+    let Audit::Order(order) = audit_all(alloc, journals).ok()? else {
         return None;
     };
     let mut left = order.events();

@@ -18,18 +18,6 @@ const PAGES: u32 = 4;
 /// Jumps to itself.
 const LOOP: u32 = 0x0000006f;
 
-/// Makes a call, and repeats it if it fails.
-macro_rules! again {
-    ($call:expr) => {
-        match $call {
-            Ok(value) => value,
-            Err(_) => $call.ok()?,
-        }
-    };
-}
-
-pub(crate) use again;
-
 /// One of two hosts that speak version 1, with an empty journal for this many entries. Host 0 has a guest of `harts`
 /// harts and four pages that jumps to itself, host 1 has none.
 pub fn recorded(alloc: Global, id: u8, harts: u32, capacity: u32) -> Option<Recorded<PagedRam>>
@@ -67,12 +55,9 @@ pub fn host_among(
 
 /// A guest of this many harts and four pages that jumps to itself.
 fn looping(alloc: Global, harts: u32) -> Option<Debugged<PagedRam>> {
-    let mut ram = again!(PagedRam::new(alloc, PAGES));
+    let mut ram = PagedRam::new(alloc, PAGES).ok()?;
     write_bytes(&mut ram, 0, &LOOP.to_le_bytes()).ok()?;
-    match Board::new(alloc, harts, ram, RAM_BASE) {
-        Ok(board) => Some(Debugged::new(board)),
-        Err((_, ram)) => Some(Debugged::new(Board::new(alloc, harts, ram, RAM_BASE).ok()?)),
-    }
+    Some(Debugged::new(Board::new(alloc, harts, ram, RAM_BASE).ok()?))
 }
 
 /// An event of the guest.
@@ -80,24 +65,16 @@ pub fn board(event: BoardEvent) -> HostEvent {
     HostEvent::Do(Command::Board(event))
 }
 
-/// Records an event, and repeats that if memory runs out.
+/// Records an event.
 pub fn record(
     recorded: &mut Recorded<PagedRam>,
     alloc: Global,
     event: HostEvent,
 ) -> Option<(u32, HostReply, Option<Addressed>)> {
-    match recorded.record(alloc, event) {
-        Ok(told) => Some(told),
-        Err((RecordError::OutOfMemory, event)) => recorded.record(alloc, event).ok(),
-        Err((RecordError::RecorderFull(_), _)) => None,
-    }
+    recorded.record(alloc, event).ok()
 }
 
-/// The event that a frame comes from a host. If an allocation fails, it is repeated.
+/// The event that a frame comes from a host.
 pub fn came(alloc: Global, from: u8, frame: Frame) -> Option<HostEvent> {
-    let frame = match Shared::new(alloc, frame) {
-        Err(refused) => Shared::new(alloc, refused.value).ok()?,
-        Ok(frame) => frame,
-    };
-    Some(HostEvent::Came(from, frame))
+    Some(HostEvent::Came(from, Shared::new(alloc, frame).ok()?))
 }

@@ -1,7 +1,7 @@
 //! Journals in files, audited: those of three hosts, of which the first sends its guest to the second, and that on to the
 //! third; and which journals are refused.
 
-use crate::asked::{again, board, came};
+use crate::asked::{board, came};
 use crate::orders::{COPIES, POLICY, made};
 use crate::written::{cut, damage, write_journal};
 use rvm_board::{Board, BoardEvent, Debugged};
@@ -126,7 +126,7 @@ fn audit_hosts<R: AllocGlobal + Print>(
 ) -> Option<()> {
     let alloc = rt.alloc();
     for id in 0..HOSTS {
-        again!(hosts.reserve(1));
+        hosts.reserve(1).ok()?;
         hosts.push(new_host(alloc, id)?).ok()?;
     }
     let [a, b, c] = hosts.as_mut_slice() else {
@@ -160,7 +160,7 @@ fn new_host(alloc: Global, id: u8) -> Option<Recorded<PagedRam>> {
 
 /// The guest of the image.
 fn new_guest(alloc: Global) -> Option<Debugged<PagedRam>> {
-    let mut ram = again!(PagedRam::new(alloc, PAGES));
+    let mut ram = PagedRam::new(alloc, PAGES).ok()?;
     write_bytes(&mut ram, 0, &IMAGE).ok()?;
     match Board::new(alloc, 1, ram, RAM_BASE) {
         Ok(board) => Some(Debugged::new(board)),
@@ -339,8 +339,8 @@ fn put<'a>(
     bytes: &[u8],
 ) -> Option<()> {
     let mut copy = Vec::new(alloc);
-    again!(copy.extend_from_slice(bytes));
-    again!(files.reserve(1));
+    copy.extend_from_slice(bytes).ok()?;
+    files.reserve(1).ok()?;
     files.push(JournalFile { name, bytes: copy }).ok()
 }
 

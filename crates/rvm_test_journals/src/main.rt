@@ -1,8 +1,8 @@
 //! Tests what hosts record, call by call: slices, room for entries, hosts that two seats call, what is refused for its
-//! size, one order of two journals and of three, and audits of journals in files. It prints what came of each, and repeats
-//! a call for which memory ran out, so that it prints the same whichever allocation fails. With a number as its argument,
-//! it puts two journals of this many entries in order instead; with `list` or `runs` and three numbers, two journals of
-//! steps among which frames come, as `runs` describes.
+//! size, one order of two journals and of three, and audits of journals in files. It prints what came of each, and says so
+//! where it ends early, since memory ran out. With a number as its argument, it puts two journals of this many entries in
+//! order instead; with `list` or `runs` and three numbers, two journals of steps among which frames come, as `runs`
+//! describes.
 //!
 //! To be read in this order: `asked`, `slices`, `sharing`, `sizes`, `orders`, `around`, `runs`, `written`, `files`.
 #![tactic(auto)]

@@ -1,6 +1,6 @@
 //! One order of the journals of two hosts.
 
-use crate::asked::{again, board, came, host, record};
+use crate::asked::{board, came, host, record};
 use rvm_audit::{AuditError, audit};
 use rvm_board::BoardEvent;
 use rvm_core::Event;
@@ -176,12 +176,9 @@ impl Pair {
         Some(())
     }
 
-    /// Puts both journals in order, and repeats that if memory runs out.
+    /// Puts both journals in order.
     pub(crate) fn order(&self, alloc: Global) -> Result<Vec<Event>, AuditError> {
-        match audit(alloc, self.a.journal(), self.b.journal()) {
-            Err(AuditError::OutOfMemory) => audit(alloc, self.a.journal(), self.b.journal()),
-            ended => ended,
-        }
+        audit(alloc, self.a.journal(), self.b.journal())
     }
 }
 
@@ -198,7 +195,7 @@ pub(crate) fn made(
 
 /// Begins a move. Returns the offer.
 fn begin(alloc: Global, host: &mut Host<PagedRam>) -> Option<Addressed> {
-    let (_, offer) = again!(host.apply(alloc, &HostEvent::Do(BEGIN)));
+    let (_, offer) = host.apply(alloc, &HostEvent::Do(BEGIN)).ok()?;
     offer
 }
 

@@ -1,7 +1,7 @@
 //! Two journals of steps among which frames come, put in order several times, so that the time that one order takes is
 //! the difference between many times and few.
 
-use crate::asked::{again, came};
+use crate::asked::came;
 use crate::orders::{BEGIN, COPIES, Pair, made};
 use rvm_audit::audit_in_runs;
 use rvm_frame::Addressed;
@@ -107,7 +107,7 @@ fn offer_among_steps(
 
 /// Records a slice, and a drain that finds nothing.
 fn step(alloc: Global, host: &mut Recorded<PagedRam>, turn: u32) -> Option<()> {
-    drop(again!(host.record_slice(alloc, turn, 1, SLICE)));
+    drop(host.record_slice(alloc, turn, 1, SLICE).ok()?);
     let _place = host.record_dry(256)?;
     Some(())
 }

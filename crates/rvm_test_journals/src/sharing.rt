@@ -413,7 +413,7 @@ fn tell_closed<L: Seating, R: AllocGlobal + Print + Wait>(
     }
 }
 
-/// Shares a host among this many seats, and repeats that if it fails.
+/// Shares a host among this many seats.
 pub fn share_host<L: Seating>(
     alloc: Global,
     blank: Blank,
@@ -426,24 +426,17 @@ pub fn share_host<L: Seating>(
     requires opening { recorded.journal.opening ≡ L.opening }
     requires capacity { recorded.capacity ≡ L.capacity }
 {
-    match share::<L, PagedRam>(alloc, blank, recorded, seats) {
-        Ok(shared) => Some(shared),
-        Err((_, blank, recorded)) => share::<L, PagedRam>(alloc, blank, recorded, seats).ok(),
-    }
+    share::<L, PagedRam>(alloc, blank, recorded, seats).ok()
 }
 
-/// Calls a host, and repeats the call if memory runs out.
+/// Calls a host.
 fn call<L: Seating, R: AllocGlobal + Wait>(
     rt: &R,
     host: &SharedHost<L, PagedRam>,
     seat: &mut Seat<L>,
     event: HostEvent,
 ) -> Option<(Receipt, Option<Addressed>)> {
-    match host.call(rt, rt.alloc(), seat, event) {
-        Ok(told) => Some(told),
-        Err((RecordError::OutOfMemory, event)) => host.call(rt, rt.alloc(), seat, event).ok(),
-        Err((RecordError::RecorderFull(_), _)) => None,
-    }
+    host.call(rt, rt.alloc(), seat, event).ok()
 }
 
 /// Prints whether a journal of one entry takes no second one, and hands its event back.

@@ -2,7 +2,7 @@
 
 ghost use Rattle.std.specs.Prelude.{◌≤◌};
 
-use crate::asked::{again, board, record, recorded};
+use crate::asked::{board, record, recorded};
 use rvm_board::BoardEvent;
 use rvm_hart::Stepped;
 use rvm_message::StepReply;
@@ -79,7 +79,7 @@ fn answered(
     harts: u32,
     wanted: StepReply,
 ) -> Option<(u32, u64, bool)> {
-    let (place, runs) = again!(host.record_slice(alloc, turn, harts, 64));
+    let (place, runs) = host.record_slice(alloc, turn, harts, 64).ok()?;
     Some((
         place,
         count_of(runs.as_slice()),
@@ -131,7 +131,7 @@ fn stop_at_a_breakpoint<R: AllocGlobal + Print>(
 /// Makes room for as many entries as the journal takes, and asks for one more.
 fn make_room<R: AllocGlobal + Print>(rt: &R, host: &mut Recorded<PagedRam>) -> Option<()> {
     let alloc = rt.alloc();
-    again!(host.reserve(alloc, 4));
+    host.reserve(alloc, 4).ok()?;
     let is_full = host.reserve(alloc, 5) == Err(RecordError::RecorderFull(4));
     println!(rt; "room for 4 entries in a journal of 4; for 5: full {is_full}").ok()
 }

@@ -1,18 +1,8 @@
 //! Texts and the images that they stand for. Words of instructions are those of the manual's
 //! formats.
 
-use crate::retry::again;
-use rvm_asm::{AsmError, Fault, Image, Segment, assemble};
-use std::alloc::Global;
+use rvm_asm::{AsmError, Fault, Segment, assemble};
 use std::test::Fail;
-
-/// The image of a text, from a second call if memory runs out in the first.
-fn image(alloc: Global, text: &str) -> Result<Image, AsmError> {
-    match assemble(alloc, text) {
-        Err(AsmError::OutOfMemory) => assemble(alloc, text),
-        result => result,
-    }
-}
 
 fn is_at(segment: &Segment, address: u32, bytes: &[u8]) -> bool {
     segment.address == address && segment.bytes.as_slice() == bytes && segment.zeros == 0
@@ -111,7 +101,7 @@ static IMAGES: [Assembled; 8] = [
 fn texts_have_these_images(rt: HostRuntime) -> Result<(), Fail> {
     for wanted in IMAGES.iter() {
         let text = wanted.text;
-        let image = image(rt.alloc(), text)?;
+        let image = assemble(rt.alloc(), text)?;
         assert_eq!(rt; image.entry, wanted.entry, "{text}");
         assert!(rt; are_at(&image.segments, wanted.segments), "{text}");
     }
@@ -146,7 +136,7 @@ static FAULTS: [(&str, Fault); 16] = [
 fn faults_stand_at_their_line(rt: HostRuntime) {
     for (text, fault) in FAULTS.iter() {
         assert_eq!(rt;
-            image(rt.alloc(), text).err(),
+            assemble(rt.alloc(), text).err(),
             Some(AsmError::Line(3, *fault)),
             "{text}"
         );
@@ -200,7 +190,7 @@ static LARGE: [(&str, AsmError); 6] = [
 #[test]
 fn faults_come_before_the_size(rt: HostRuntime) {
     for (text, error) in LARGE.iter() {
-        assert_eq!(rt; image(rt.alloc(), text).err(), Some(*error), "{text}");
+        assert_eq!(rt; assemble(rt.alloc(), text).err(), Some(*error), "{text}");
     }
 }
 
@@ -211,7 +201,7 @@ fn is_one(segments: &[Segment], size: usize) -> bool {
 
 #[test]
 fn texts_of_2_24_bytes_have_an_image(rt: HostRuntime) -> Result<(), Fail> {
-    let image = image(rt.alloc(), ".space 0xFFFFFF\n.byte 1")?;
+    let image = assemble(rt.alloc(), ".space 0xFFFFFF\n.byte 1")?;
     assert!(rt; is_one(&image.segments, 1 << 24));
     Ok(())
 }
@@ -219,10 +209,10 @@ fn texts_of_2_24_bytes_have_an_image(rt: HostRuntime) -> Result<(), Fail> {
 /// However deep values are nested, no stack grows with them.
 #[test]
 fn a_million_halves_stand_one_in_another(rt: HostRuntime) -> Result<(), Fail> {
-    let begun = again!("%lo(".repeat(rt.alloc(), 1_000_000));
-    let closed = again!(")".repeat(rt.alloc(), 1_000_000));
-    let text = again!(format!(in rt.alloc(); ".word {begun}%hi(0x12345FFF){closed}"));
-    let image = image(rt.alloc(), &text)?;
+    let begun = "%lo(".repeat(rt.alloc(), 1_000_000)?;
+    let closed = ")".repeat(rt.alloc(), 1_000_000)?;
+    let text = format!(in rt.alloc(); ".word {begun}%hi(0x12345FFF){closed}")?;
+    let image = assemble(rt.alloc(), &text)?;
     assert!(rt; are_at(&image.segments, &[(0x8000_0000, &[0x46, 0x03, 0, 0])]));
     Ok(())
 }

@@ -1,7 +1,6 @@
-//! Boards at reset over one page of RAM, from a second call if memory runs out in the first.
+//! Boards at reset over one page of RAM.
 
-use crate::retry::again;
-use rvm_board::{Board, BoardError, Debugged};
+use rvm_board::{Board, Debugged};
 use rvm_hart::RAM_BASE;
 use rvm_mem::{FlatMemory, PagedMemory, write_bytes};
 use std::alloc::{AllocError, Global};
@@ -9,7 +8,7 @@ use std::test::Fail;
 
 /// A page of RAM.
 pub fn page(alloc: Global) -> Result<FlatMemory, AllocError> {
-    Ok(again!(FlatMemory::zeroed(alloc, 1)))
+    FlatMemory::zeroed(alloc, 1)
 }
 
 /// A board with one page of RAM that begins with these words.
@@ -20,11 +19,7 @@ pub fn board(alloc: Global, harts: u32, words: &[u32]) -> Result<Debugged<FlatMe
         write_bytes(&mut ram, at, &word.to_le_bytes())?;
         at = at.wrapping_add(4);
     }
-    let made = match Board::new(alloc, harts, ram, RAM_BASE) {
-        Err((BoardError::OutOfMemory, ram)) => Board::new(alloc, harts, ram, RAM_BASE),
-        made => made,
-    };
-    match made {
+    match Board::new(alloc, harts, ram, RAM_BASE) {
         Ok(board) => Ok(Debugged::new(board)),
         Err((error, _)) => Err(Fail::from(error)),
     }

@@ -1,12 +1,13 @@
-//! The texts are those that another assembler (`llvm-mc`) turns into these words: a check of the
-//! definitions, which the contracts stand on.
+//! The texts are those that other assemblers (`llvm-mc` and GNU `as`) turn into these words: a check of the definitions,
+//! which the contracts stand on.
 
 use rvm_dis::write_ins;
 use rvm_refusal::LinkFault;
 use std::test::Fail;
 
-/// One word of each row of the table, at 0x80000000.
-static ROWS: [(u32, &str); 68] = [
+/// Words at 0x80000000, and their texts.
+static WORDS: [(u32, &str); 168] = [
+    // One word of each row, as LLVM's assembler has it.
     (0x100001B7, "lui gp, 0x10000"),
     (0xFFFFF517, "auipc a0, 0xfffff"),
     (0xFFDFF0EF, "jal ra, 0x7ffffffc"),
@@ -75,11 +76,8 @@ static ROWS: [(u32, &str); 68] = [
     (0xA424ADAF, "amomax.w.aq s11, sp, (s1)"),
     (0xC37F282F, "amominu.w.rl a6, s7, (t5)"),
     (0xE6C9A2AF, "amomaxu.w.aqrl t0, a2, (s3)"),
-];
-
-/// Words that another assembler (GNU `as`) makes, at 0x80000000: each row with as many bits set and clear as it may have; the
-/// two fences with registers have no text.
-static OTHER_ROWS: [(u32, &str); 76] = [
+    // Each row as the GNU assembler has it, with as many bits set and clear as it may have. The two fences with registers
+    // have no text.
     (0x9A5C39B7, "lui s3, 0x9a5c3"),
     (0x9A5C3997, "auipc s3, 0x9a5c3"),
     (0xB2E699EF, "jal s3, 0x7ff6932e"),
@@ -156,11 +154,7 @@ static OTHER_ROWS: [(u32, &str); 76] = [
     (0x300110F3, "csrrw ra, 0x300, sp"),
     (0x120120AF, "lr.w.rl ra, (sp)"),
     (0xE61120AF, "amomaxu.w.aqrl ra, ra, (sp)"),
-];
-
-/// Words without a text of their own: no row; a fence of writes alone, one with total store ordering, and a fence.i with an
-/// immediate; a shift by 32.
-static DATA: [(u32, &str); 24] = [
+    // No row; a fence of writes alone, one with total store ordering, and a fence.i with an immediate; a shift by 32.
     (0x00000000, ".word 0x00000000"),
     (0xFFFFFFFF, ".word 0xffffffff"),
     (0x0110000F, ".word 0x0110000f"),
@@ -195,7 +189,7 @@ static DATA: [(u32, &str); 24] = [
 #[test]
 fn each_row_and_other_words_have_their_texts(rt: HostRuntime) -> Result<(), Fail> {
     let mut written = Vec::new(rt.alloc());
-    for (word, text) in ROWS.iter().chain(OTHER_ROWS.iter()).chain(DATA.iter()) {
+    for (word, text) in WORDS.iter() {
         written.clear();
         if write_ins(0x80000000, *word, &mut written).is_err() {
             written.clear();

@@ -1,7 +1,6 @@
 //! A linker's file is read as its tools print it, refusals come in their order, and what is loaded
 //! runs.
 
-use crate::retry::again;
 use rvm_asm::{Image, Segment};
 use rvm_board::Board;
 use rvm_elf::{OutsideRam, ReadError, WriteError, load, raw_image, read_image, write_image};
@@ -49,14 +48,6 @@ fn changed(changes: &[(usize, u8)]) -> [u8; 168] {
     file
 }
 
-/// What is wrong with a file, if memory does not run out.
-fn fault(alloc: Global, file: &[u8]) -> Option<ReadError> {
-    match read_image(alloc, file) {
-        Err(ReadError::OutOfMemory) => read_image(alloc, file).err(),
-        read => read.err(),
-    }
-}
-
 /// A file that is cut short, and one with bytes changed: the first of its faults is reported.
 #[test]
 fn files_with_faults_are_refused(rt: HostRuntime) {
@@ -77,7 +68,11 @@ fn files_with_faults_are_refused(rt: HostRuntime) {
     ];
     for (count, want) in cut_short {
         assert!(rt; count <= LINKED.len());
-        assert_eq!(rt; fault(rt.alloc(), &LINKED[..count]), want, "{count} bytes");
+        assert_eq!(rt;
+            read_image(rt.alloc(), &LINKED[..count]).err(),
+            want,
+            "{count} bytes"
+        );
     }
     let changes: [(&[(usize, u8)], Option<ReadError>); 24] = [
         (&[(4, 2)], other),
@@ -111,7 +106,7 @@ fn files_with_faults_are_refused(rt: HostRuntime) {
         (&[(SECOND + BYTES, 5), (SECOND + SIZE, 0)], None),
     ];
     for (changes, want) in changes {
-        assert_eq!(rt; fault(rt.alloc(), &changed(changes)), want);
+        assert_eq!(rt; read_image(rt.alloc(), &changed(changes)).err(), want);
     }
 }
 
@@ -134,8 +129,8 @@ fn image_of(alloc: Global, segments: &[(u32, &[u8], u32)]) -> Result<Image, Allo
 #[test]
 fn files_of_a_linker_and_of_this_program_are_read(rt: HostRuntime) -> Result<(), Fail> {
     let alloc = rt.alloc();
-    let raw = again!(raw_image(alloc, &[7; 36]));
-    let written = again!(write_image(alloc, &raw));
+    let raw = raw_image(alloc, &[7; 36])?;
+    let written = write_image(alloc, &raw)?;
     assert_eq!(rt; written.len(), 120);
     let segments: [&[(u32, &[u8], u32)]; 2] = [
         &[
@@ -145,7 +140,7 @@ fn files_of_a_linker_and_of_this_program_are_read(rt: HostRuntime) -> Result<(),
         &[(0x8000_0000, &[7; 36], 0)],
     ];
     for (file, segments) in [&LINKED, written.as_slice()].iter().zip(segments) {
-        let image = again!(read_image(alloc, file));
+        let image = read_image(alloc, file)?;
         assert_eq!(rt; image.entry, 0x8000_0000);
         assert_eq!(rt; image.segments.len(), segments.len());
         for (segment, (address, bytes, zeros)) in image.segments.iter().zip(segments.iter()) {
@@ -161,26 +156,22 @@ fn an_image_too_large_for_a_file_is_refused(rt: HostRuntime) -> Result<(), Fail>
     let alloc = rt.alloc();
     let small: (u32, &[u8], u32) = (0x8000_0000, &[], 1);
     let large: (u32, &[u8], u32) = (0x8000_0000, &[0], u32::MAX);
-    let many = again!(image_of(alloc, &[small; 17]));
+    let many = image_of(alloc, &[small; 17])?;
     assert_eq!(rt; write_image(alloc, &many).err(), Some(WriteError::TooMany));
-    let wide = again!(image_of(alloc, &[small, large]));
+    let wide = image_of(alloc, &[small, large])?;
     assert_eq!(rt;
         write_image(alloc, &wide).err(),
         Some(WriteError::OutOfReach)
     );
-    let empty = again!(image_of(alloc, &[]));
-    assert_eq!(rt; again!(write_image(alloc, &empty)).len(), 52);
+    let empty = image_of(alloc, &[])?;
+    assert_eq!(rt; write_image(alloc, &empty)?.len(), 52);
     Ok(())
 }
 
 /// A board of one hart and one page.
 fn board(alloc: Global) -> Result<Board<FlatMemory>, Fail> {
-    let ram = again!(FlatMemory::zeroed(alloc, 1));
-    let made = match Board::new(alloc, 1, ram, 0x8000_0000) {
-        Err((_, ram)) => Board::new(alloc, 1, ram, 0x8000_0000),
-        made => made,
-    };
-    match made {
+    let ram = FlatMemory::zeroed(alloc, 1)?;
+    match Board::new(alloc, 1, ram, 0x8000_0000) {
         Ok(board) => Ok(board),
         Err((error, _)) => Err(Fail::new(error)),
     }
@@ -203,17 +194,17 @@ fn sent(alloc: Global, image: &Image) -> Result<u8, Fail> {
 #[test]
 fn the_last_segment_decides(rt: HostRuntime) -> Result<(), Fail> {
     let alloc = rt.alloc();
-    let linked = again!(read_image(alloc, &LINKED));
+    let linked = read_image(alloc, &LINKED)?;
     assert_eq!(rt; sent(alloc, &linked)?, b'A');
     let program: (u32, &[u8], u32) = (0x8000_0000, &LINKED[148..164], 0);
     // addi t1, zero, 66 in place of 65, and the same with zeros over its immediate.
     let other: (u32, &[u8], u32) = (0x8000_0004, &[0x13, 0x03, 0x20, 0x04], 0);
     let zeros: (u32, &[u8], u32) = (0x8000_0006, &[], 2);
-    let changed = again!(image_of(alloc, &[program, other]));
+    let changed = image_of(alloc, &[program, other])?;
     assert_eq!(rt; sent(alloc, &changed)?, b'B');
-    let cleared = again!(image_of(alloc, &[program, other, zeros]));
+    let cleared = image_of(alloc, &[program, other, zeros])?;
     assert_eq!(rt; sent(alloc, &cleared)?, 0);
-    let outside = again!(image_of(alloc, &[program, (0x8000_0FFF, &[1], 1)]));
+    let outside = image_of(alloc, &[program, (0x8000_0FFF, &[1], 1)])?;
     assert_eq!(rt; load(&outside, &mut board(alloc)?), Err(OutsideRam));
     Ok(())
 }

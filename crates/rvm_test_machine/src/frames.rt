@@ -4,7 +4,6 @@
 ghost use Rattle.std.specs.Prelude.{Some};
 ghost use Rattle.rvm_frame.specs.Grammar.{HasSpelling, sent};
 
-use crate::retry::again;
 use rvm_frame::{
     Addressed, Frame, FrameFault, FrameReader, PageBytes, ReadFault, Received, append_frame,
     frame_bytes, frame_len, read_frame, write_frame,
@@ -43,11 +42,11 @@ fn feed_piece(
 ) -> Result<(), Fail> {
     let mut rest = piece;
     for _ in 0..5 {
-        let (taken, received) = again!(reader.feed(alloc, rest));
+        let (taken, received) = reader.feed(alloc, rest)?;
         rest = &rest[taken..];
         if let Some(received) = received {
-            let line = again!(words(alloc, &received));
-            again!(frames.push_str(line.as_str()));
+            let line = words(alloc, &received)?;
+            frames.push_str(line.as_str())?;
         }
     }
     Ok(())
@@ -73,7 +72,7 @@ fn the_frames_come_in_any_pieces(rt: HostRuntime) -> Result<(), Fail> {
 fn fault(alloc: Global, version: u8, bytes: &[u8]) -> Result<Option<FrameFault>, FrameFault> {
     let hello = [0, 0, 0, 0, 0, 0, 0, 0, 0, 4, 0, 0, 0, version, 0, 0, 0];
     let mut reader = FrameReader::new(alloc);
-    again!(reader.feed(alloc, &hello));
+    reader.feed(alloc, &hello)?;
     Ok(reader.feed(alloc, bytes).err())
 }
 
@@ -237,15 +236,15 @@ static KINDS: [(u32, &str, &str); 18] = [
 
 /// The frame that bytes are, and its hosts, as text.
 fn read_words(alloc: Global, version: u32, bytes: &[u8]) -> Result<String, Fail> {
-    let received = again!(read_frame(alloc, version, bytes));
-    Ok(again!(words(alloc, &received)))
+    let received = read_frame(alloc, version, bytes)?;
+    Ok(words(alloc, &received)?)
 }
 
 #[test]
 fn each_kind_is_read_by_its_bytes(rt: HostRuntime) -> Result<(), Fail> {
     let alloc = rt.alloc();
     for (version, digits, wanted) in KINDS.iter() {
-        let bytes = again!(hex::decode(alloc, digits));
+        let bytes = hex::decode(alloc, digits)?;
         assert_eq!(rt;
             read_words(alloc, *version, &bytes)?.as_str().trim_end(),
             *wanted
@@ -258,8 +257,8 @@ fn each_kind_is_read_by_its_bytes(rt: HostRuntime) -> Result<(), Fail> {
 fn written(alloc: Global, version: u32, addressed: &Addressed) -> Result<Vec<u8>, Fail>
     requires { HasSpelling (sent version addressed.now) }
 {
-    let bytes = again!(frame_bytes(alloc, version, addressed));
-    let mut appended = again!(Vec::with_capacity(alloc, frame_len(version, addressed)));
+    let bytes = frame_bytes(alloc, version, addressed)?;
+    let mut appended = Vec::with_capacity(alloc, frame_len(version, addressed))?;
     append_frame(version, addressed, &mut appended);
     let mut written = Vec::new(alloc);
     if write_frame(version, addressed, &mut written).is_err() {
@@ -304,12 +303,12 @@ fn written_page(alloc: Global) -> Result<Vec<u8>, Fail> {
         move_number: 18446744073709551615,
         page: 2,
         copy_number: 7,
-        bytes: again!(PageBytes::from_slice(alloc, &[9; 4096])),
+        bytes: PageBytes::from_slice(alloc, &[9; 4096])?,
     };
     let page = Addressed {
         from: 0,
         to: 1,
-        frame: again!(page.copy(alloc)),
+        frame: page.copy(alloc)?,
     };
     written(alloc, 1, &page)
 }
@@ -319,7 +318,7 @@ fn a_frame_is_copied_written_and_read(rt: HostRuntime) -> Result<(), Fail> {
     let alloc = rt.alloc();
     let bytes = written_page(alloc)?;
     assert_eq!(rt; bytes.len(), 4115);
-    let (hosts, frame) = again!(read_frame(alloc, 1, bytes.as_slice()));
+    let (hosts, frame) = read_frame(alloc, 1, bytes.as_slice())?;
     assert_eq!(rt; hosts, None);
     assert_eq!(rt; frame.move_number(), 18446744073709551615);
     Ok(())
@@ -328,8 +327,8 @@ fn a_frame_is_copied_written_and_read(rt: HostRuntime) -> Result<(), Fail> {
 /// A reader after Hello of version 1 and the header of a Page.
 fn at_a_page(alloc: Global) -> Result<FrameReader, FrameFault> {
     let mut reader = FrameReader::new(alloc);
-    again!(reader.feed(alloc, &[0, 0, 0, 0, 0, 0, 0, 0, 0, 4, 0, 0, 0, 1, 0, 0, 0]));
-    again!(reader.feed(alloc, &[4, 1, 0, 0, 0, 0, 0, 0, 0, 6, 16, 0, 0]));
+    reader.feed(alloc, &[0, 0, 0, 0, 0, 0, 0, 0, 0, 4, 0, 0, 0, 1, 0, 0, 0])?;
+    reader.feed(alloc, &[4, 1, 0, 0, 0, 0, 0, 0, 0, 6, 16, 0, 0])?;
     Ok(reader)
 }
 

@@ -1,7 +1,6 @@
 //! The longest script and the longest body of a frame, and what is one byte longer.
 
 use crate::boards::board;
-use crate::retry::again;
 use rvm_debug::{ScriptError, run_script};
 use rvm_frame::{Frame, ReadFault, read_frame};
 use std::alloc::Global;
@@ -33,21 +32,12 @@ impl Read for Comment {
 fn end_of(alloc: Global, bytes: u64) -> Result<Result<(), ScriptError>, Fail> {
     let mut board = board(alloc, 1, &[LOOP])?;
     let mut written = Vec::new(alloc);
-    let mut end = run_script(
+    Ok(run_script(
         alloc,
         &mut board,
         &mut Comment { left: bytes },
         &mut written,
-    );
-    if end == Err(ScriptError::OutOfMemory) {
-        end = run_script(
-            alloc,
-            &mut board,
-            &mut Comment { left: bytes },
-            &mut written,
-        );
-    }
-    Ok(end)
+    ))
 }
 
 #[test]
@@ -59,12 +49,12 @@ fn a_script_has_at_most_2_to_the_26_bytes(rt: HostRuntime) -> Result<(), Fail> {
 
 /// A state of one page, whose copy has number 1, with a body of this many bytes in all.
 fn state(alloc: Global, body: u32) -> Result<Vec<u8>, Fail> {
-    let mut bytes = again!(Vec::with_capacity(alloc, 40_000));
-    again!(bytes.extend_from_slice(&[7, 1, 0, 0, 0, 0, 0, 0, 0]));
-    again!(bytes.extend_from_slice(&body.to_le_bytes()));
-    again!(bytes.extend_from_slice(&[1, 0, 1, 0, 0, 0]));
+    let mut bytes = Vec::with_capacity(alloc, 40_000)?;
+    bytes.extend_from_slice(&[7, 1, 0, 0, 0, 0, 0, 0, 0])?;
+    bytes.extend_from_slice(&body.to_le_bytes())?;
+    bytes.extend_from_slice(&[1, 0, 1, 0, 0, 0])?;
     for _ in 6..body {
-        again!(bytes.push(0));
+        bytes.push(0)?;
     }
     Ok(bytes)
 }
@@ -80,7 +70,7 @@ fn length(frame: &Frame) -> Option<usize> {
 #[test]
 fn a_body_has_at_most_32768_bytes(rt: HostRuntime) -> Result<(), Fail> {
     let longest = state(rt.alloc(), 32768)?;
-    let (_, frame) = again!(read_frame(rt.alloc(), 1, &longest));
+    let (_, frame) = read_frame(rt.alloc(), 1, &longest)?;
     assert_eq!(rt; length(&frame), Some(32762));
     let longer = state(rt.alloc(), 32769)?;
     assert!(rt; matches!(read_frame(rt.alloc(), 1, &longer), Err(ReadFault::TooLong)));

@@ -1,6 +1,5 @@
 //! The hosts of a world, as a file names them: what is read, and what no clause says, that there is memory for it.
 
-use crate::retry::again;
 use rvm_link::read_peers;
 use std::test::Fail;
 
@@ -9,7 +8,7 @@ static WORLD: &[u8] = b"# a world\nA 10.0.0.1:7001\r\n\n B farm:7002 \n";
 
 #[test]
 fn two_hosts_are_read(rt: HostRuntime) -> Result<(), Fail> {
-    let peers = again!(read_peers(rt.alloc(), WORLD));
+    let peers = read_peers(rt.alloc(), WORLD)?;
     assert_eq!(rt; peers.count(), 2);
     assert!(rt; peers.address(0) == Some(b"10.0.0.1:7001".as_slice()));
     assert!(rt; peers.address(1) == Some(b"farm:7002".as_slice()));

@@ -2,9 +2,7 @@
 //! refusal.
 
 use crate::boards::{board, page};
-use crate::retry::again;
-use rvm_board::Debugged;
-use rvm_mem::{FlatMemory, Memory};
+use rvm_mem::Memory;
 use rvm_state::{StateFault, read_state, write_state};
 use std::alloc::{AllocError, Global};
 use std::test::Fail;
@@ -12,19 +10,7 @@ use std::test::Fail;
 /// The bytes of a board of one hart and one page after reset.
 fn at_reset(alloc: Global) -> Result<Vec<u8>, Fail> {
     let guest = board(alloc, 1, &[])?;
-    Ok(again!(write_state(alloc, &guest)))
-}
-
-/// What `read_state` returns; if memory runs out, what it returns at a second call, with the RAM that it handed back.
-fn read(
-    alloc: Global,
-    bytes: &[u8],
-    ram: FlatMemory,
-) -> Result<Debugged<FlatMemory>, (StateFault, FlatMemory)> {
-    match read_state(alloc, bytes, ram) {
-        Err((StateFault::OutOfMemory, ram)) => read_state(alloc, bytes, ram),
-        answer => answer,
-    }
+    Ok(write_state(alloc, &guest)?)
 }
 
 /// The first 200 of these bytes, some of them changed, and others after them.
@@ -34,7 +20,7 @@ fn changed(
     changes: &[(usize, u8)],
     rest: &[u8],
 ) -> Result<Vec<u8>, AllocError> {
-    let mut out = again!(Vec::with_capacity(alloc, 200 + rest.len()));
+    let mut out = Vec::with_capacity(alloc, 200 + rest.len())?;
     for (place, byte) in bytes.iter().take(200).enumerate() {
         let mut byte = *byte;
         for (changed, value) in changes {
@@ -48,17 +34,13 @@ fn changed(
     Ok(out)
 }
 
-/// Whether the bytes spell no guest with one page of RAM, which is handed back.
-fn is_refused(alloc: Global, bytes: &[u8]) -> Result<bool, Fail> {
-    match read(alloc, bytes, page(alloc)?) {
-        Err((StateFault::BadState, ram)) => Ok(ram.len() == 4096),
-        _ => Ok(false),
-    }
-}
-
-/// Whether the bytes spell a guest with one page of RAM.
+/// Whether the bytes spell a guest with one page of RAM, which is handed back if they do not.
 fn is_read(alloc: Global, bytes: &[u8]) -> Result<bool, Fail> {
-    Ok(matches!(read(alloc, bytes, page(alloc)?), Ok(_)))
+    match read_state(alloc, bytes, page(alloc)?) {
+        Ok(_) => Ok(true),
+        Err((StateFault::BadState, ram)) if ram.len() == 4096 => Ok(false),
+        Err((fault, _)) => Err(Fail::from(fault)),
+    }
 }
 
 #[test]
@@ -92,9 +74,9 @@ fn what_is_read_is_written_again(rt: HostRuntime) -> Result<(), Fail> {
     ];
     let rest = [2, 7, 8, 3, 0, 1, 2, 3, 2, 4, 0, 0, 0x80, 8, 0, 0, 0x80];
     let bytes = changed(alloc, reset.as_slice(), &changes, &rest)?;
-    match read(alloc, bytes.as_slice(), page(alloc)?) {
+    match read_state(alloc, bytes.as_slice(), page(alloc)?) {
         Ok(guest) => {
-            let written = again!(write_state(alloc, &guest));
+            let written = write_state(alloc, &guest)?;
             assert_eq!(rt; written.as_slice(), bytes.as_slice());
         }
         Err((fault, _)) => return Err(Fail::from(fault)),
@@ -123,14 +105,14 @@ fn bytes_that_spell_no_guest_are_refused(rt: HostRuntime) -> Result<(), Fail> {
     ];
     for change in changes {
         let wrong = changed(alloc, bytes.as_slice(), &[change], &empty)?;
-        assert!(rt; is_refused(alloc, wrong.as_slice())?);
+        assert!(rt; !is_read(alloc, wrong.as_slice())?);
     }
     let falling = [0, 0, 0, 2, 8, 0, 0, 0, 4, 0, 0, 0];
     let one_more = [0, 0, 0, 0, 0];
     let one_less = [0, 0, 0];
     for rest in [falling.as_slice(), one_more.as_slice(), one_less.as_slice()] {
         let wrong = changed(alloc, bytes.as_slice(), &[], rest)?;
-        assert!(rt; is_refused(alloc, wrong.as_slice())?);
+        assert!(rt; !is_read(alloc, wrong.as_slice())?);
     }
     let right = changed(alloc, bytes.as_slice(), &[], &empty)?;
     assert!(rt; is_read(alloc, right.as_slice())?);
