@@ -1,5 +1,5 @@
-//! Frames in each version of a stream: read from bytes and written to the same bytes; a stream in pieces of any size; the
-//! fault of bytes that are no frame; and when memory is asked for.
+//! Frames in each version of a stream: read from bytes and written to the same bytes; a stream that is cut at each of its
+//! bytes; the fault of bytes that are no frame; and when memory is asked for.
 
 ghost use Rattle.std.specs.Prelude.{Some};
 ghost use Rattle.rvm_frame.specs.Grammar.{HasSpelling, sent};
@@ -52,17 +52,22 @@ fn feed_piece(
     Ok(())
 }
 
+/// The frames of a stream that comes in two pieces.
+fn frames_of(alloc: Global, front: &[u8], back: &[u8]) -> Result<String, Fail> {
+    let mut reader = FrameReader::new(alloc);
+    let mut frames = String::new(alloc);
+    feed_piece(alloc, &mut reader, front, &mut frames)?;
+    feed_piece(alloc, &mut reader, back, &mut frames)?;
+    Ok(frames)
+}
+
 #[test]
-fn the_frames_come_in_any_pieces(rt: HostRuntime) -> Result<(), Fail> {
-    let alloc = rt.alloc();
-    for size in [1, 5, 64, 75] {
-        let mut reader = FrameReader::new(alloc);
-        let mut frames = String::new(alloc);
-        for piece in STREAM.chunks(size) {
-            feed_piece(alloc, &mut reader, piece, &mut frames)?;
-        }
-        assert_eq!(rt; frames.as_str(), STREAM_FRAMES, "in pieces of {size} bytes");
-        assert_eq!(rt; reader.version(), Some(3));
+fn a_stream_may_be_cut_anywhere(rt: HostRuntime) -> Result<(), Fail> {
+    let stream = STREAM.as_slice();
+    for cut in 0..=stream.len() {
+        let (front, back) = stream.split_at(cut);
+        let frames = frames_of(rt.alloc(), front, back)?;
+        assert_eq!(rt; frames.as_str(), STREAM_FRAMES, "cut at {cut}");
     }
     Ok(())
 }

@@ -37,9 +37,9 @@ fn changed(
 /// Whether the bytes spell a guest with one page of RAM, which is handed back if they do not.
 fn is_read(alloc: Global, bytes: &[u8]) -> Result<bool, Fail> {
     match read_state(alloc, bytes, page(alloc)?) {
-        Ok(_) => Ok(true),
-        Err((StateFault::BadState, ram)) if ram.len() == 4096 => Ok(false),
-        Err((fault, _)) => Err(Fail::from(fault)),
+        Ok(_guest) => Ok(true),
+        Err((StateFault::BadState, ram)) => Ok(ram.len() != 4096),
+        Err((fault, _ram)) => Err(Fail::from(fault)),
     }
 }
 
