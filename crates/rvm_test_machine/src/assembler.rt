@@ -2,6 +2,7 @@
 //! formats.
 
 use rvm_asm::{AsmError, Fault, Segment, assemble};
+use std::alloc::{AllocError, Global};
 use std::test::Fail;
 
 fn is_at(segment: &Segment, address: u32, bytes: &[u8]) -> bool {
@@ -206,12 +207,17 @@ fn texts_of_2_24_bytes_have_an_image(rt: HostRuntime) -> Result<(), Fail> {
     Ok(())
 }
 
+/// A word whose value is a half, a million times in another.
+fn nested_halves(alloc: Global) -> Result<String, AllocError> {
+    let begun = "%lo(".repeat(alloc, 1_000_000)?;
+    let closed = ")".repeat(alloc, 1_000_000)?;
+    format!(in alloc; ".word {begun}%hi(0x12345FFF){closed}")
+}
+
 /// However deep values are nested, no stack grows with them.
 #[test]
 fn a_million_halves_stand_one_in_another(rt: HostRuntime) -> Result<(), Fail> {
-    let begun = "%lo(".repeat(rt.alloc(), 1_000_000)?;
-    let closed = ")".repeat(rt.alloc(), 1_000_000)?;
-    let text = format!(in rt.alloc(); ".word {begun}%hi(0x12345FFF){closed}")?;
+    let text = nested_halves(rt.alloc())?;
     let image = assemble(rt.alloc(), &text)?;
     assert!(rt; are_at(&image.segments, &[(0x8000_0000, &[0x46, 0x03, 0, 0])]));
     Ok(())

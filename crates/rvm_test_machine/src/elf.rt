@@ -126,28 +126,37 @@ fn image_of(alloc: Global, segments: &[(u32, &[u8], u32)]) -> Result<Image, Allo
     })
 }
 
-#[test]
-fn files_of_a_linker_and_of_this_program_are_read(rt: HostRuntime) -> Result<(), Fail> {
-    let alloc = rt.alloc();
-    let raw = raw_image(alloc, &[7; 36])?;
-    let written = write_image(alloc, &raw)?;
-    assert_eq!(rt; written.len(), 120);
-    let segments: [&[(u32, &[u8], u32)]; 2] = [
-        &[
-            (0x8000_0000, &LINKED[148..164], 0),
-            (0x8000_0010, &[0x44, 0x33, 0x22, 0x11], 8),
-        ],
-        &[(0x8000_0000, &[7; 36], 0)],
-    ];
-    for (file, segments) in [&LINKED, written.as_slice()].iter().zip(segments) {
-        let image = read_image(alloc, file)?;
-        assert_eq!(rt; image.entry, 0x8000_0000);
-        assert_eq!(rt; image.segments.len(), segments.len());
-        for (segment, (address, bytes, zeros)) in image.segments.iter().zip(segments.iter()) {
-            assert_eq!(rt; (segment.address, segment.zeros), (*address, *zeros));
-            assert_eq!(rt; segment.bytes.as_slice(), *bytes);
+/// Whether an image begins at the first byte of RAM, and has just these segments.
+fn has(image: &Image, segments: &[(u32, &[u8], u32)]) -> bool {
+    if image.entry != 0x8000_0000 || image.segments.len() != segments.len() {
+        return false;
+    }
+    for (segment, (address, bytes, zeros)) in image.segments.iter().zip(segments.iter()) {
+        if segment.address != *address
+            || segment.bytes.as_slice() != *bytes
+            || segment.zeros != *zeros
+        {
+            return false;
         }
     }
+    true
+}
+
+#[test]
+fn a_file_of_a_linker_is_read(rt: HostRuntime) -> Result<(), Fail> {
+    let image = read_image(rt.alloc(), &LINKED)?;
+    let program: (u32, &[u8], u32) = (0x8000_0000, &LINKED[148..164], 0);
+    let data: (u32, &[u8], u32) = (0x8000_0010, &[0x44, 0x33, 0x22, 0x11], 8);
+    assert!(rt; has(&image, &[program, data]));
+    Ok(())
+}
+
+#[test]
+fn a_file_of_this_program_is_read(rt: HostRuntime) -> Result<(), Fail> {
+    let written = write_image(rt.alloc(), &raw_image(rt.alloc(), &[7; 36])?)?;
+    assert!(rt; written.len() == 120);
+    let image = read_image(rt.alloc(), &written)?;
+    assert!(rt; has(&image, &[(0x8000_0000, &[7; 36], 0)]));
     Ok(())
 }
 
@@ -204,7 +213,12 @@ fn the_last_segment_decides(rt: HostRuntime) -> Result<(), Fail> {
     assert_eq!(rt; sent(alloc, &changed)?, b'B');
     let cleared = image_of(alloc, &[program, other, zeros])?;
     assert_eq!(rt; sent(alloc, &cleared)?, 0);
-    let outside = image_of(alloc, &[program, (0x8000_0FFF, &[1], 1)])?;
-    assert_eq!(rt; load(&outside, &mut board(alloc)?), Err(OutsideRam));
+    Ok(())
+}
+
+#[test]
+fn a_segment_outside_ram_is_refused(rt: HostRuntime) -> Result<(), Fail> {
+    let outside = image_of(rt.alloc(), &[(0x8000_0FFF, &[1], 1)])?;
+    assert_eq!(rt; load(&outside, &mut board(rt.alloc())?), Err(OutsideRam));
     Ok(())
 }

@@ -44,43 +44,50 @@ fn is_read(alloc: Global, bytes: &[u8]) -> Result<bool, Fail> {
 }
 
 #[test]
-fn what_is_read_is_written_again(rt: HostRuntime) -> Result<(), Fail> {
-    let alloc = rt.alloc();
-    // One hart after reset is 204 bytes.
-    let reset = at_reset(alloc)?;
-    assert_eq!(rt; reset.len(), 204);
+fn one_hart_after_reset_is_204_bytes(rt: HostRuntime) -> Result<(), Fail> {
+    let reset = at_reset(rt.alloc())?;
     let front = [1, 0, 0, 0, 0, 0, 0, 0, 0, 0, 0, 0, 0, 0, 0, 0, 0x80];
-    assert!(rt; reset.as_slice().starts_with(&front));
-    // Halted with 9, overrun, mtime, pc, x1, x31, mstatus, mie, mtvec, mepc, minstret, msip, a
-    // reservation, stopped.
-    let changes = [
-        (1, 1),
-        (2, 9),
-        (3, 1),
-        (5, 7),
-        (13, 4),
-        (17, 11),
-        (137, 31),
-        (141, 0x88),
-        (146, 8),
-        (149, 5),
-        (157, 8),
-        (184, 3),
-        (185, 1),
-        (194, 1),
-        (195, 4),
-        (198, 0x80),
-        (199, 1),
-    ];
-    let rest = [2, 7, 8, 3, 0, 1, 2, 3, 2, 4, 0, 0, 0x80, 8, 0, 0, 0x80];
-    let bytes = changed(alloc, reset.as_slice(), &changes, &rest)?;
-    match read_state(alloc, bytes.as_slice(), page(alloc)?) {
-        Ok(guest) => {
-            let written = write_state(alloc, &guest)?;
-            assert_eq!(rt; written.as_slice(), bytes.as_slice());
-        }
-        Err((fault, _)) => return Err(Fail::from(fault)),
+    assert!(rt; reset.len() == 204 && reset.starts_with(&front));
+    Ok(())
+}
+
+/// Halted with 9, overrun, mtime, pc, x1, x31, mstatus, mie, mtvec, mepc, minstret, msip, a reservation, stopped.
+static CHANGES: [(usize, u8); 17] = [
+    (1, 1),
+    (2, 9),
+    (3, 1),
+    (5, 7),
+    (13, 4),
+    (17, 11),
+    (137, 31),
+    (141, 0x88),
+    (146, 8),
+    (149, 5),
+    (157, 8),
+    (184, 3),
+    (185, 1),
+    (194, 1),
+    (195, 4),
+    (198, 0x80),
+    (199, 1),
+];
+
+/// Two bytes of input, three of output, and the breakpoints 0x80000004 and 0x80000008.
+static REST: [u8; 17] = [2, 7, 8, 3, 0, 1, 2, 3, 2, 4, 0, 0, 0x80, 8, 0, 0, 0x80];
+
+/// The bytes that are written of a guest that was read.
+fn written_again(alloc: Global, bytes: &[u8]) -> Result<Vec<u8>, Fail> {
+    match read_state(alloc, bytes, page(alloc)?) {
+        Ok(guest) => Ok(write_state(alloc, &guest)?),
+        Err((fault, _ram)) => Err(Fail::from(fault)),
     }
+}
+
+#[test]
+fn what_is_read_is_written_again(rt: HostRuntime) -> Result<(), Fail> {
+    let reset = at_reset(rt.alloc())?;
+    let bytes = changed(rt.alloc(), &reset, &CHANGES, &REST)?;
+    assert!(rt; written_again(rt.alloc(), &bytes)?.as_slice() == bytes.as_slice());
     Ok(())
 }
 
