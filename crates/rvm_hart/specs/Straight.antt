@@ -56,7 +56,8 @@ pub record Goes (instruction : Machine → Outcome) (pc : ℕ) (old : HartState)
       ≡ machine (at_pc next new) new_bus
   pub dirty : new_bus.dirty ≡ mark_all (pages_of (instruction (machine (at_pc pc old) old_bus))) old_bus.dirty
 
--- what a step on the path leaves as it was, which goes on at an offset, or is not made
+-- what a step on the path leaves: one that is made goes on at a multiple of four, with the CSRs, the devices and the
+-- number of reservations that it found; one that is not made leaves all as it was
 pub record LeavesRest (next : Option ℕ) (old : HartState) (old_bus : BusState) (new : HartState) (new_bus : BusState) : Type 0 where
   pub aligned : IfSome next (λ at. at % 4 ≡ 0)
   pub hart : IfNone next (new ≡ old)

@@ -97,7 +97,7 @@ csr_immediate : decoded 0x300FD073 ≡ Some (Csrrwi 0 31 0x300)
 unfolding decoded row_of table signed_value
 csr_immediate = refl
 
--- fence and fence.i with bits in fields that no row looks at, as GNU's assembler encodes them
+-- fence and fence.i with registers and bits of an immediate, as GNU's assembler encodes them: their rows take any
 fence_with_registers : decoded 0x9B56898F ≡ Some (Fence 19 13 (negsuc 1610))
 unfolding decoded row_of table signed_value
 fence_with_registers = refl

@@ -33,7 +33,7 @@ fn words(alloc: Global, received: &Received) -> Result<String, AllocError> {
     format!(in alloc; "{:?} {:?}\n", received.0, received.1)
 }
 
-/// Feeds a whole piece. Puts the frames that it ends behind those before it, one a line.
+/// Feeds a whole piece, and appends each frame that ends in it to `frames`, one a line.
 fn feed_piece(
     alloc: Global,
     reader: &mut FrameReader,

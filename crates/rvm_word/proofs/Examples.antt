@@ -75,9 +75,14 @@ high_mixed_of_unlike : high (signed 0x0002FE7D *ℤ pos 0xAAAAAAAB) ∷ high (si
 unfolding signed_value
 high_mixed_of_unlike = refl
 
+high_unsigned_of_unlike : 0xAAAAAAAB * 0x0002FE7D / 2 ^ 32 ∷ 0x80000000 * 0xFFFF8000 / 2 ^ 32 ∷ []
+    ≡ 0x0001FEFE ∷ 0x7FFFC000 ∷ []
+high_unsigned_of_unlike = refl
+
 -- right shifts of the public tests of RISC-V
 shifts_fill_with_the_sign : modulo 32 (floor_shift (signed 0x81818181) 7) ∷ modulo 32 (floor_shift (signed 0x80000000) 31)
-    ∷ modulo 32 (floor_shift (signed 0x7FFFFFFF) 31) ∷ [] ≡ 0xFF030303 ∷ 0xFFFFFFFF ∷ 0 ∷ []
+    ∷ modulo 32 (floor_shift (signed 0x7FFFFFFF) 31) ∷ modulo 32 (floor_shift (signed 0x80000000) 0) ∷ []
+    ≡ 0xFF030303 ∷ 0xFFFFFFFF ∷ 0 ∷ 0x80000000 ∷ []
 unfolding signed_value
 shifts_fill_with_the_sign = refl
 
@@ -90,6 +95,11 @@ shift_rounds_down = refl
 byte_is_negative : signed_value 8 0x80 ≡ negsuc 127
 unfolding signed_value
 byte_is_negative = refl
+
+-- the bits above a byte do not count
+bits_above_a_byte : signed_value 8 (0x180 % 2 ^ 8) ∷ signed_value 8 (0xFF7F % 2 ^ 8) ∷ [] ≡ negsuc 127 ∷ pos 127 ∷ []
+unfolding signed_value
+bits_above_a_byte = refl
 
 half_is_extended : modulo 32 (signed_value 16 0x8000) ≡ 0xFFFF8000
 unfolding signed_value
