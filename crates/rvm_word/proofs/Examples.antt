@@ -1,5 +1,5 @@
 -- Values that the standard states, computed by the definitions.
-use Rattle.std.proofs.Common.{◌≡◌, [], ◌∷◌, ◌*◌, ◌/◌, ◌^◌, ◌*ℤ◌, ◌+ℤ◌, pos, negsuc, true, false, refl}
+use Rattle.std.proofs.Common.{◌≡◌, [], ◌∷◌, ◌*◌, ◌/◌, ◌%◌, ◌^◌, ◌*ℤ◌, ◌+ℤ◌, pos, negsuc, true, false, refl}
 use Rattle.std.specs.Prelude.{int_lt}
 use Rattle.rvm_word.specs.Bits.{bit, is_set, low_half, high_half, with_low, with_high}
 use Rattle.rvm_word.specs.Word.{signed_value, signed, modulo, high, floor_shift, quotient, remainder, unsigned_quotient, unsigned_remainder}
