@@ -4,4 +4,7 @@ pub mod Adding
 pub mod Keeping
 pub mod Recorders
 pub mod Replayed
+pub mod ReadJournals
+pub mod Pieces
+pub mod Reading
 mod HeaderExamples

@@ -28,10 +28,9 @@ use Rattle.rvm_journal.specs.declared.noted.Noted.{Noted}
 use Rattle.rvm_journal.specs.declared.noted.Noted.TheVariants.{Turns, Command as Commanded, Came, Met, End}
 use Rattle.rvm_journal.specs.declared.replay.JournalFault.{JournalFault}
 use Rattle.rvm_journal.specs.declared.replay.JournalFault.TheVariants as fault
-use Rattle.rvm_journal.specs.Headers.{first_header, header_at, header_in_line}
 use Rattle.rvm_station.specs.declared.log.Meeting.{Meeting}
 use Rattle.rvm_journal.specs.Noting.{bytes_noted, came_noted, command_in, end_noted, events_of, frame_noted, meeting_in, noted_by, noted_of, run_if, turns_noted}
-use Rattle.rvm_journal.specs.Replaying.{AreFewer, HasHarts, IsJournalFault, IsLineFault, IsReplayedTo, IsRoomFault, IsSpent, IsWanted, LacksHeader, LacksRoom, first_of, left_of, noted_at}
+use Rattle.rvm_journal.specs.Replaying.{AreFewer, HasHarts, IsJournalFault, IsLineFault, IsReplayedTo, IsRoomFault, IsSpent, IsWanted, LacksRoom, first_of, left_of, noted_at}
 use Rattle.rvm_journal.specs.Told.{Told, at_header, digest_after, digest_behind, header_told, mark, no_digest, text_in, told_by, told_in, told_of}
 use Rattle.rvm_journal.proofs.Adding.{behind_header, one_told}
 use Rattle.rvm_journal.proofs.Runs.{how_many, joined, of_turn}
@@ -250,8 +249,10 @@ enough_told m left rest es is (inr spent) =
 pub not_spent : (why : JournalFault) (n h number : ℕ) (digest line : List ℕ) (r : Recording)
     → IsLineFault why n h number digest line → IsSpent why r
 not_spent (fault.BadLine k) n h number digest line r bad = tt
+not_spent (fault.LongLine k) n h number digest line r bad = absurd bad
 not_spent (fault.TooLong most) n h number digest line r bad = absurd bad
 not_spent fault.OutOfMemory n h number digest line r bad = tt
+not_spent fault.LinkFault n h number digest line r bad = absurd bad
 
 -- what a first line tells
 if_shown : (b : Bool) (text : List ℕ) (t : Told) → option_map (λ x. t) (cond b (Some text) None) ≡ cond b (Some t) None
@@ -346,7 +347,7 @@ module _ (n h : ℕ) where
       let t : Told = record { digest = digest; events = so.events } in
       let count = so.number_is in
       let k_is = bad.0 in
-      inr (record {
+      record {
         before = so.before;
         line = line;
         rest = behind;
@@ -358,11 +359,15 @@ module _ (n h : ℕ) where
         refused = told_by_is t line
             ∙ ap (λ o. option_map (λ noted. told_with (digest_behind digest line) t noted) o)
             (ap (λ d. noted_at n h d line) (sym is) ∙ bad.1);
-      })
+      }
+  line_refused most left ls rest behind line digest after number more (fault.LongLine k) a b so wanted rest_is is more_is bad =
+      absurd bad
   line_refused most left ls rest behind line digest after number more (fault.TooLong m) a b so wanted rest_is is more_is bad =
       absurd bad
   line_refused most left ls rest behind line digest after number more fault.OutOfMemory a b so wanted rest_is is more_is
       bad = tt
+  line_refused most left ls rest behind line digest after number more fault.LinkFault a b so wanted rest_is is more_is
+      bad = absurd bad
 
   -- a line that was read, and whose events were not all recorded
   pub room_refused : (most left : Option ℕ) (ls rest behind : List (List ℕ)) (line digest after : List ℕ) (number : ℕ)
@@ -370,6 +375,7 @@ module _ (n h : ℕ) where
       → rest ≡ line ∷ behind → after ≡ digest_behind digest line → noted_at n h after line ≡ Some noted
       → IsRoomFault why (length (first_of left (events_of noted))) b → IsJournalFault why most n h ls a.capacity (room_of a)
   room_refused most left ls rest behind line digest after number noted (fault.BadLine k) a b so rest_is is own bad = absurd bad
+  room_refused most left ls rest behind line digest after number noted (fault.LongLine k) a b so rest_is is own bad = absurd bad
   room_refused most left ls rest behind line digest after number noted (fault.TooLong m) a b so rest_is is own bad =
       let es = events_of noted in
       let wanted : first_of most so.events ++ first_of left es ≡ first_of most (so.events ++ es) =
@@ -389,6 +395,7 @@ module _ (n h : ℕ) where
         bad.1 ∙ same,
       )
   room_refused most left ls rest behind line digest after number noted fault.OutOfMemory a b so rest_is is own bad = tt
+  room_refused most left ls rest behind line digest after number noted fault.LinkFault a b so rest_is is own bad = absurd bad
 
   -- no line is left, or no event is wanted any more
   pub all_done : (most left : Option ℕ) (bytes : List ℕ) (rest : List (List ℕ)) (digest : List ℕ) (number : ℕ) (a b : Recording)
@@ -428,20 +435,3 @@ header_shown line digest shown is same =
     if_shown (bytes_eq (take 17 line) (mark (digest_behind no_digest line))) (text_in line) (at_header line)
     ∙ ap (λ d. cond (bytes_eq (take 17 line) (mark d)) (Some (record { digest = d; events = [] })) None) (sym is)
     ∙ ap (λ b. cond b (Some (record { digest = digest; events = [] })) None) (sym same)
-
--- the header of a journal
-pub header_first : (bytes line : List ℕ) (ls : List (List ℕ)) → lines bytes ≡ line ∷ ls → header_at bytes ≡ header_in_line line
-unfolding header_at
-header_first bytes line ls e = ap first_header e
-
-pub no_header : (bytes : List ℕ) → lines bytes ≡ [] → header_at bytes ≡ None
-unfolding header_at
-no_header bytes e = ap first_header e
-
--- no first line
-pub lacks_all : (ls : List (List ℕ)) → ls ≡ [] → LacksHeader ls
-lacks_all ls none = subst LacksHeader (sym none) tt
-
--- a first line that does not show its digest
-pub lacks_first : (ls rest : List (List ℕ)) (line : List ℕ) → ls ≡ line ∷ rest → header_told line ≡ None → LacksHeader ls
-lacks_first ls rest line is none = subst LacksHeader (sym is) none

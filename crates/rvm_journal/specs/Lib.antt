@@ -7,4 +7,6 @@ pub mod Headers
 pub mod Recorders
 pub mod Replaying
 pub mod Whole
+pub mod Reading
+pub mod LinesRead
 pub mod Letters

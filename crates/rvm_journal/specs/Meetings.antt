@@ -1,5 +1,5 @@
 -- The other hosts that a host met, as the lines of its journal tell.
-use Rattle.std.specs.Prelude.{⊤, ◌⊎◌, ℕ, List, [], ◌∷◌, Option, IfSome, IsSomeAnd}
+use Rattle.std.specs.Prelude.{⊤, ◌⊎◌, ℕ, List, [], ◌∷◌, ◌++◌, Option, Some, None}
 use Rattle.rvm_debug.specs.Words.{words}
 use Rattle.rvm_station.specs.declared.log.Meeting.{Meeting}
 use Rattle.rvm_journal.specs.Noting.{meeting_in}
@@ -9,12 +9,22 @@ use Rattle.rvm_journal.specs.Told.{text_in}
 abbrev pub meeting_of : (line : List ℕ) → Option Meeting
 meeting_of line = meeting_in (words (text_in line))
 
--- of each meeting that lines tell this holds
-abbrev pub AllMeetings : (P : Meeting → Type 0) → (lines : List (List ℕ)) → Type 0
-AllMeetings P [] = ⊤
-AllMeetings P (l ∷ ls) = IfSome (meeting_of l) P × AllMeetings P ls
+-- one meeting, or none
+abbrev pub one_or_none : Option Meeting → List Meeting
+one_or_none None = []
+one_or_none (Some m) = m ∷ []
 
--- of some meeting that lines tell this holds
-abbrev pub SomeMeeting : (P : Meeting → Type 0) → (lines : List (List ℕ)) → Type 0
+-- the meetings that lines tell, in order
+abbrev pub meetings_in : (lines : List (List ℕ)) → List Meeting
+meetings_in [] = []
+meetings_in (l ∷ ls) = one_or_none (meeting_of l) ++ meetings_in ls
+
+-- of each of some meetings this holds
+abbrev pub AllMeetings : (P : Meeting → Type 0) → List Meeting → Type 0
+AllMeetings P [] = ⊤
+AllMeetings P (m ∷ ms) = P m × AllMeetings P ms
+
+-- of one of some meetings this holds
+abbrev pub SomeMeeting : (P : Meeting → Type 0) → List Meeting → Type 0
 SomeMeeting P [] = ⊥
-SomeMeeting P (l ∷ ls) = IsSomeAnd (meeting_of l) P ⊎ SomeMeeting P ls
+SomeMeeting P (m ∷ ms) = P m ⊎ SomeMeeting P ms

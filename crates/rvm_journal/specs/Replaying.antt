@@ -11,9 +11,9 @@ use Rattle.rvm_journal.specs.Recorders.{Records, room_of}
 use Rattle.rvm_journal.specs.declared.noted.Noted.{Noted}
 use Rattle.rvm_journal.specs.declared.noted.Noted.TheVariants.{Turns, Command as Commanded, Came, Met, End}
 use Rattle.rvm_journal.specs.declared.replay.JournalFault.{JournalFault}
-use Rattle.rvm_journal.specs.declared.replay.JournalFault.TheVariants.{BadLine, TooLong, OutOfMemory}
+use Rattle.rvm_journal.specs.declared.replay.JournalFault.TheVariants.{BadLine, LongLine, TooLong, OutOfMemory, LinkFault}
 use Rattle.rvm_journal.specs.Noting.{noted_of}
-use Rattle.rvm_journal.specs.Told.{Told, header_told, mark, text_in, told_by, told_in, told_of}
+use Rattle.rvm_journal.specs.Told.{Told, mark, text_in, told_by, told_in, told_of}
 
 -- the last of some lines that come after this one
 abbrev pub last_of : (line : List ℕ) → (lines : List (List ℕ)) → List ℕ
@@ -61,15 +61,6 @@ pub record IsBadLine (most : Option ℕ) (hosts host : ℕ) (ls : List (List ℕ
   pub few : AreFewer most told.events
   pub refused : told_by hosts host told line ≡ None
 
--- there is no first line, or it does not show its own digest
-abbrev pub LacksHeader : (ls : List (List ℕ)) → Type 0
-LacksHeader [] = ⊤
-LacksHeader (first ∷ ls) = header_told first ≡ None
-
--- the first line that tells nothing has this number, and the lines before it tell fewer events than are wanted
-abbrev pub IsFirstBad : (most : Option ℕ) → (hosts host : ℕ) → (ls : List (List ℕ)) → (number : ℕ) → Type 0
-IsFirstBad most n h ls number = ((number ≡ 1) × LacksHeader ls) ⊎ IsBadLine most n h ls number
-
 -- first lines of a journal tell more events that are wanted than there is room for
 pub record IsTooLong (most : Option ℕ) (hosts host : ℕ) (ls : List (List ℕ)) (room : ℕ) : Type 0 where
   pub read : List (List ℕ)
@@ -82,22 +73,28 @@ pub record IsTooLong (most : Option ℕ) (hosts host : ℕ) (ls : List (List ℕ
 -- what is reported of a fault
 abbrev pub fault_text : JournalFault → List ℕ
 fault_text OutOfMemory = codes "out of memory"
+fault_text LinkFault = codes "refused 31 LinkFault"
 fault_text (TooLong most) = codes "more than " ++ decimal most ++ codes " events"
+fault_text (LongLine number) = codes "line " ++ decimal number ++ codes ": more than 131072 bytes"
 fault_text (BadLine number) = codes "line " ++ decimal number ++ codes ": no line of this journal"
 
 -- why not all events that are wanted of a journal were done: the first line that tells nothing, or too little room in a
 -- recorder that takes `capacity` entries at most
 abbrev pub IsJournalFault : JournalFault → (most : Option ℕ) → (hosts host : ℕ) → (ls : List (List ℕ)) → (capacity room : ℕ)
     → Type 0
-IsJournalFault (BadLine number) most n h ls capacity room = IsFirstBad most n h ls number
+IsJournalFault (BadLine number) most n h ls capacity room = IsBadLine most n h ls number
+IsJournalFault (LongLine number) most n h ls capacity room = ⊤
 IsJournalFault (TooLong m) most n h ls capacity room = IsTooLong most n h ls room × (m ≡ capacity)
 IsJournalFault OutOfMemory most n h ls capacity room = ⊤
+IsJournalFault LinkFault most n h ls capacity room = ⊤
 
 -- the recorder takes no more entries, if a journal was too long for it
 abbrev pub IsSpent : JournalFault → Recording → Type 0
 IsSpent (BadLine number) r = ⊤
+IsSpent (LongLine number) r = ⊤
 IsSpent (TooLong most) r = count_of r ≡ r.capacity
 IsSpent OutOfMemory r = ⊤
+IsSpent LinkFault r = ⊤
 
 -- all lines of a journal were done: what they tell was recorded
 abbrev pub IsReplayed : (hosts host : ℕ) → (bytes : List ℕ) → (old new : Recording) → Type 0
@@ -134,11 +131,15 @@ noted_at n h d line = if bytes_eq (take 17 line) (mark d) then noted_of n h (tex
 -- why a line with this number and digest was not read: it tells nothing, or memory ran out
 abbrev pub IsLineFault : JournalFault → (hosts host number : ℕ) → (digest line : List ℕ) → Type 0
 IsLineFault (BadLine k) n h number d line = (k ≡ number) × (noted_at n h d line ≡ None)
+IsLineFault (LongLine k) n h number d line = ⊥
 IsLineFault (TooLong most) n h number d line = ⊥
 IsLineFault OutOfMemory n h number d line = ⊤
+IsLineFault LinkFault n h number d line = ⊥
 
 -- why this many events, as a line tells, were not done: too little room in the recorder, or memory ran out
 abbrev pub IsRoomFault : JournalFault → (count : ℕ) → Recording → Type 0
 IsRoomFault (BadLine k) n r = ⊥
+IsRoomFault (LongLine k) n r = ⊥
 IsRoomFault (TooLong most) n r = (room_of r < n) × (most ≡ r.capacity)
 IsRoomFault OutOfMemory n r = ⊤
+IsRoomFault LinkFault n r = ⊥

@@ -10,7 +10,7 @@ use rvm_station::Meeting;
 
 /// The meeting that a line of a journal tells, which comes without its line feed; none if it tells none. Looks at no
 /// digest.
-pub fn meeting_of(line: &[u8]) -> Option<Meeting>
+pub(crate) fn meeting_of(line: &[u8]) -> Option<Meeting>
     ensures { result ≡ meeting_of line.now }
 {
     meeting_in(Words::new(text_in(line)))

@@ -1,24 +1,19 @@
-//! Has a host do again what a journal tells.
+//! Has a host do again what a line of a journal tells.
 
 ghost use Rattle.std.specs.Prelude.{◌≡◌, ◌+◌, ◌%◌, ◌<◌, ◌≤◌, ◌∷◌, [], false, length, take, true, IfErr, IfOk, IfSome, MatchOption, None, OnErr, OnOk, Some};
 ghost use Rattle.std.specs.Str.{bytes_eq};
 ghost use Rattle.rvm_station.specs.Logs.{steps_from};
 ghost use Rattle.rvm_journal.specs.Recorders.{HasMore, IsFull, Records, room_of};
-ghost use Rattle.rvm_debug.specs.Words.{lines};
 ghost use Rattle.rvm_message.specs.declared.event.HostEvent.TheVariants.{Came};
-ghost use Rattle.rvm_journal.specs.Headers.{IsRanged, header_at, header_in_line};
 ghost use Rattle.rvm_journal.specs.Noting.{events_of};
-ghost use Rattle.rvm_journal.specs.Replaying.{HasHarts, IsJournalFault, IsLineFault, IsReplayedTo, IsRoomFault, IsSpent, IsWanted, LacksRoom, first_of, is_whole, last_of, left_of, noted_at};
+ghost use Rattle.rvm_journal.specs.Replaying.{HasHarts, IsLineFault, IsRoomFault, IsSpent, IsWanted, LacksRoom, first_of, left_of, noted_at};
 ghost use Rattle.rvm_journal.specs.Told.{header_told, mark, text_in};
 
 use crate::digest::{LineDigest, MARK};
-use crate::header::Header;
 use crate::noted::Noted;
 use crate::recorder::Recorder;
 use crate::replay_error::ReplayError;
 use crate::run::Run;
-use crate::texts::END;
-use rvm_debug::split_line;
 use rvm_frame::Frame;
 use rvm_message::{HostEvent, Shared};
 use std::alloc::{AllocError, Global};
@@ -29,10 +24,13 @@ use std::fmt;
 pub enum JournalFault {
     /// Memory ran out.
     OutOfMemory,
+    /// A read failed.
+    LinkFault,
     /// The journal tells more events than this, and no more can be counted.
     TooLong(u64),
-    /// The line with this number, from 1, does not show the digest of all lines up to it, or its text tells nothing; of a
-    /// journal without a line, 1.
+    /// The line with this number, from 1, has more than 2^17 bytes.
+    LongLine(usize),
+    /// The line with this number, from 1, does not show the digest of all lines up to it, or its text tells nothing.
     BadLine(usize),
 }
 
@@ -46,57 +44,16 @@ impl fmt::Display for JournalFault {
     fn fmt<W: fmt::Write>(&self, f: &mut fmt::Formatter<W>) -> fmt::Result {
         match *self {
             JournalFault::OutOfMemory => f.write_str("out of memory"),
+            JournalFault::LinkFault => f.write_str("refused 31 LinkFault"),
             JournalFault::TooLong(most) => write!(f, "more than {most} events"),
+            JournalFault::LongLine(number) => write!(f, "line {number}: more than 131072 bytes"),
             JournalFault::BadLine(number) => write!(f, "line {number}: no line of this journal"),
         }
     }
 }
 
-/// Has a host do what the journal of host `host` of this many hosts tells, which has these bytes: the events that the
-/// lines after the first tell, which is the header's, in order, up to `most` of them, or all. No line is looked at after
-/// these events, and the last line that is looked at may tell more of them.
-///
-/// Fails with `BadLine` at the first line that does not show the digest of all lines up to it, or whose text tells
-/// nothing; with `TooLong` if the recorder takes no more entries; with `OutOfMemory` if memory runs out. What the lines
-/// before tell has been recorded then.
-pub fn replay_journal<R: Recorder>(
-    alloc: Global,
-    hosts: u8,
-    host: u8,
-    bytes: &[u8],
-    most: Option<u64>,
-    recorder: &mut R,
-) -> Result<(), JournalFault>
-    ensures told { OnOk result (IsReplayedTo most hosts host bytes.now (R.recording recorder.old)
-        (R.recording recorder.new)) }
-    ensures fault { IfErr result (λ why. IsJournalFault why most hosts host (lines bytes.now)
-        (R.recording recorder.old).capacity (room_of (R.recording recorder.old))) }
-    ensures spent { IfErr result (λ why. IsSpent why (R.recording recorder.new)) }
-    ensures more { OnErr result (HasMore (R.recording recorder.old) (R.recording recorder.new)) }
-{
-    if bytes.is_empty() {
-        return Err(JournalFault::BadLine(1));
-    }
-    let (header, mut rest) = split_line(bytes);
-    let mut digest = match begin(header) {
-        Some(digest) => digest,
-        None => return Err(JournalFault::BadLine(1)),
-    };
-    let mut number = 1;
-    let mut left = most;
-    while !rest.is_empty() && is_wanted(left) {
-        let (line, behind) = split_line(rest);
-        number += 1;
-        digest = digest.after(text_in(line));
-        let noted = read_line(alloc, hosts, host, number, &digest, line)?;
-        left = do_first(alloc, noted, left, recorder)?;
-        rest = behind;
-    }
-    Ok(())
-}
-
 /// Whether another event is wanted.
-fn is_wanted(left: Option<u64>) -> bool
+pub(crate) fn is_wanted(left: Option<u64>) -> bool
     ensures wanted { result ≡ true → IsWanted left }
     ensures none { result ≡ false → left ≡ Some 0 }
 {
@@ -108,7 +65,7 @@ fn is_wanted(left: Option<u64>) -> bool
 
 /// The digest of the first line of a journal. None if the line does not show it.
 #[tactic(auto, using(crate::proofs::Replayed::header_shown))]
-fn begin(line: &[u8]) -> Option<LineDigest>
+pub(crate) fn begin(line: &[u8]) -> Option<LineDigest>
     ensures { MatchOption result (header_told line.now ≡ None)
         (λ digest. header_told line.now ≡ Some (record { digest = digest.bytes; events = [] })) }
 {
@@ -120,54 +77,8 @@ fn begin(line: &[u8]) -> Option<LineDigest>
     }
 }
 
-/// Whether a journal with these bytes is whole: its last line tells its end. Another one was cut off: its process was
-/// killed, or a line could not be written. Looks at no digest.
-pub fn is_whole(bytes: &[u8]) -> bool
-    ensures { result ≡ is_whole bytes.now }
-{
-    text_in(last_line(bytes)) == END
-}
-
-/// The last line of a text; nothing if the text has no line.
-fn last_line(text: &[u8]) -> &[u8]
-    ensures { result.now ≡ last_of [] (lines text.now) }
-{
-    let mut last: &[u8] = &[];
-    let mut rest = text;
-    while !rest.is_empty() {
-        (last, rest) = split_line(rest);
-    }
-    last
-}
-
-/// Reads the header of a journal with these bytes: that of the text of the first line. None if there is no line, if the
-/// first line does not show its digest, or if its text tells no header.
-pub fn read_header(bytes: &[u8]) -> Option<Header>
-    ensures header { result ≡ header_at bytes.now }
-    ensures range { IfSome result IsRanged }
-{
-    if bytes.is_empty() {
-        return None;
-    }
-    let (line, _rest) = split_line(bytes);
-    header_in_line(line)
-}
-
-/// The header that a first line tells. None if the line does not show its digest, or if its text tells no header.
-fn header_in_line(line: &[u8]) -> Option<Header>
-    ensures header { result ≡ header_in_line line.now }
-    ensures range { IfSome result IsRanged }
-{
-    let text = text_in(line);
-    if shows(line, &LineDigest::none().after(text)) {
-        Header::read(text)
-    } else {
-        None
-    }
-}
-
 /// What the line with this number tells, which is to show this digest.
-fn read_line(
+pub(crate) fn read_line(
     alloc: Global,
     hosts: u8,
     host: u8,
@@ -226,7 +137,7 @@ pub(crate) fn text_in(line: &[u8]) -> &[u8]
 
 /// Has a host do the events that a line tells, up to as many as are wanted, one or more, or all. Returns how many are
 /// wanted after the line.
-fn do_first<R: Recorder>(
+pub(crate) fn do_first<R: Recorder>(
     alloc: Global,
     noted: Noted,
     left: Option<u64>,

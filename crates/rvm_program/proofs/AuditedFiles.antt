@@ -1,172 +1,223 @@
 -- Journals that are read from files and audited.
-use Rattle.std.proofs.Common.{◌≡◌, ◌<◌, ◌+◌, ℕ, zero, suc, List, [], ◌∷◌, ◌++◌, Option, None, Some, Result, Ok, Err, inl, inr, sym, subst, take, length, arith}
-use Rattle.std.specs.Prelude.{OnErr, get_or, slice_get}
+use Rattle.std.proofs.Common.{◌≡◌, ◌∙◌, ◌<◌, ◌+◌, ℕ, zero, suc, List, [], ◌∷◌, ◌++◌, Option, None, Some, Result, Ok, Err, ap, refl, inl, inr, sym, subst, take, length, arith}
+use Rattle.std.specs.Prelude.{OnErr, Vec, get_or, slice_get}
 use Rattle.std.specs.Result.{IfOk}
 use Rattle.std.specs.Borrow.{Bor}
+use Rattle.std.specs.declared.alloc.Global.{Global}
+use Rattle.std.proofs.lemmas.List.{length-map}
 use Rattle.std.proofs.lemmas.Option.{none-some, same_Some, slice_get-get_or}
 use Rattle.rvm_arguments.specs.declared.arguments.AuditJournalsArguments.{AuditJournalsArguments}
 use Rattle.rvm_replay.specs.Findings.{HasAuditStatus, IsUntoldAudit}
+use Rattle.rvm_replay.specs.Journals.{AreTexts, JournalText, known_in}
 use Rattle.rvm_replay.specs.declared.audit.AuditText.{AuditText}
 use Rattle.rvm_replay.specs.declared.audit.AuditText.TheVariants.{Chart}
-use Rattle.rvm_replay.specs.declared.file.JournalFile.{JournalFile}
-use Rattle.rvm_program.specs.Ended.{AreAuditedTo, AreJournals, IsAuditEnd, IsDrawnEnd, IsJournal, IsOneMore, IsShownEnd, JournalsEnded, ToTell, Written, text_of, written}
-use Rattle.rvm_files.specs.Files.{IsCreated, IsFile, Named}
+use Rattle.rvm_replay.proofs.Worlds.{any_texts}
+use Rattle.rvm_program.specs.Ended.{AreAuditedTo, AreGiven, AreJournals, IsAuditEnd, IsDrawnEnd, IsShownEnd, JournalsEnded, ToTell, Written, text_of, written}
+use Rattle.rvm_program.proofs.ReplayEnds.{given_journal}
+use Rattle.rvm_files.specs.Files.{IsCreated, IsFile, IsOpened, Named}
 
-after_one : (files : Named) (names : List (Bor (List ℕ))) (i : ℕ) (js : List JournalFile) (n : Bor (List ℕ)) (j : JournalFile)
-    → AreJournals files (take i names) js → slice_get names i ≡ Some n → IsJournal (files n.now) j.bytes.items
-    → AreJournals files (take (suc i) names) (js ++ j ∷ [])
-after_one files [] i js n j are at is = absurd (none-some n at)
-after_one files (m ∷ ms) zero [] n j are at is =
-    (subst (λ k. IsJournal (files k.now) j.bytes.items) (sym (same_Some m n at)) is, tt)
-after_one files (m ∷ ms) zero (x ∷ xs) n j are at is = absurd are
-after_one files (m ∷ ms) (suc i) [] n j are at is = absurd are
-after_one files (m ∷ ms) (suc i) (x ∷ xs) n j are at is = (are.0, after_one files ms i xs n j are.1 at is)
+after_one : (files : Named) (names : List (Bor (List ℕ))) (i : ℕ) (ks : List (Option (List ℕ))) (n : Bor (List ℕ))
+    (k : Option (List ℕ)) → AreGiven files (take i names) ks → slice_get names i ≡ Some n → IsOpened (files n.now) k
+    → AreGiven files (take (suc i) names) (ks ++ k ∷ [])
+after_one files [] i ks n k are at is = absurd (none-some n at)
+after_one files (m ∷ ms) zero [] n k are at is =
+    (subst (λ l. IsOpened (files l.now) k) (sym (same_Some m n at)) is, tt)
+after_one files (m ∷ ms) zero (x ∷ xs) n k are at is = absurd are
+after_one files (m ∷ ms) (suc i) [] n k are at is = absurd are
+after_one files (m ∷ ms) (suc i) (x ∷ xs) n k are at is = (are.0, after_one files ms i xs n k are.1 at is)
 
--- one more journal was read
-pub one_more : (files : Named) (names : List (Bor (List ℕ))) (i : ℕ) (js after : List JournalFile) (d : Bor (List ℕ))
-    → AreJournals files (take i names) js → i < length names → IsOneMore (files (get_or names i d).now) js after
-    → AreJournals files (take (i + 1) names) after
-one_more files names i js after d are below more =
+-- one more journal was opened or read
+pub one_given : (files : Named) (names : List (Bor (List ℕ))) (i : ℕ) (ks after : List (Option (List ℕ))) (d : Bor (List ℕ))
+    (k : Option (List ℕ)) → AreGiven files (take i names) ks → i < length names → IsOpened (files (get_or names i d).now) k
+    → after ≡ ks ++ k ∷ [] → AreGiven files (take (i + 1) names) after
+one_given files names i ks after d k are below is last =
     let next : suc i ≡ i + 1 = omega arith in
-    subst (λ k. AreJournals files (take k names) after) next
-    (subst (λ it. AreJournals files (take (suc i) names) it) (sym more.last)
-    (after_one files names i js (get_or names i d) more.journal are (slice_get-get_or names i d below) more.lines))
+    subst (λ l. AreGiven files (take l names) after) next
+    (subst (AreGiven files (take (suc i) names)) (sym last)
+    (after_one files names i ks (get_or names i d) k are (slice_get-get_or names i d below) is))
+
+-- all bytes of a file
+pub file_given : (known : Option (List ℕ)) (bytes : List ℕ) → IsFile known bytes → IsOpened known (Some bytes)
+file_given None bytes is = tt
+file_given (Some all) bytes is = ap Some is
+
+-- there are as many as names
+pub given_long : (files : Named) (names : List (Bor (List ℕ))) (known : List (Option (List ℕ))) → AreGiven files names known
+    → length names ≡ length known
+given_long files [] [] are = refl
+given_long files [] (k ∷ ks) are = absurd are
+given_long files (n ∷ ns) [] are = absurd are
+given_long files (n ∷ ns) (k ∷ ks) are = ap suc (given_long files ns ks are.1)
+
+pub read_long : (files : Named) (names : List (Bor (List ℕ))) (journals : List (Vec ℕ Global))
+    → AreGiven files names (known_in journals) → length names ≡ length journals
+read_long files names journals are =
+    given_long files names (known_in journals) are ∙ length-map journals (λ (v : Vec ℕ Global). Some v.items)
+
+-- journals that are read from files that were opened are those of the files
+pub given_texts : (files : Named) (names : List (Bor (List ℕ))) (known : List (Option (List ℕ))) (journals : List JournalText)
+    → AreGiven files names known → AreTexts names known journals → AreJournals files names journals
+given_texts files [] [] [] given are = tt
+given_texts files [] [] (j ∷ js) given are = absurd are
+given_texts files [] (k ∷ ks) js given are = absurd given
+given_texts files (n ∷ ns) [] js given are = absurd given
+given_texts files (n ∷ ns) (k ∷ ks) [] given are = absurd are
+given_texts files (n ∷ ns) (k ∷ ks) (j ∷ js) given are =
+    (are.0, given_journal (files n.now) k j.text given.0 are.1, given_texts files ns ks js given.1 are.2)
+
+-- what ended so for any texts of journals, did for some
+pub with_texts : {F : Type 0} (r : Result ℕ F) (names : List (Bor (List ℕ))) (known : List (Option (List ℕ)))
+    (P : List JournalText → ℕ → Type 0) → length names ≡ length known
+    → ((journals : List JournalText) → IfOk r (P journals))
+    → IfOk r (λ s. (journals : List JournalText) × AreTexts names known journals × P journals s)
+with_texts (Ok s) names known P long ended = let any = any_texts names known long in (any.0, any.1, ended any.0)
+with_texts (Err e) names known P long ended = tt
+
+pub with_texts_untold : {F : Type 0} (r : Result ℕ F) (names : List (Bor (List ℕ))) (known : List (Option (List ℕ)))
+    (P : List JournalText → Type 0) → length names ≡ length known → ((journals : List JournalText) → OnErr r (P journals))
+    → OnErr r ((journals : List JournalText) × AreTexts names known journals × P journals)
+with_texts_untold (Ok s) names known P long untold = tt
+with_texts_untold (Err e) names known P long untold =
+    let any = any_texts names known long in (any.0, any.1, untold any.0)
+
+-- there are as many texts as journals that were read
+pub as_many_known : (names : List (Bor (List ℕ))) (journals : List (Vec ℕ Global)) → length names ≡ length journals
+    → length names ≡ length (known_in journals)
+as_many_known names journals long = long ∙ sym (length-map journals (λ (v : Vec ℕ Global). Some v.items))
 
 -- `audit-journals` was given its files
-pub has_audited : {F : Type 0} (files created : Named) (a : AuditJournalsArguments) (journals : List JournalFile) (image : List ℕ)
-    (output : Option (List ℕ)) (errors : Written) (r : Result ℕ F) → AreJournals files a.journals.items journals
-    → IsFile (files a.image.now) image
-    → IfOk r (λ status. IsShownEnd files created a a.chart status journals image output errors)
-    → IfOk r (λ status. JournalsEnded files created a status output errors)
-has_audited files created a journals image output errors (Err fault) journals_are image_is ended = tt
-has_audited files created a journals image output errors (Ok s) journals_are image_is (inl shown) =
-    inl (record {
-      journals = journals;
-      image = image;
-      journals_are = journals_are;
-      image_is = image_is;
-      shown = shown;
-    })
-has_audited files created a journals image output errors (Ok s) journals_are image_is (inr unbegun) = inr unbegun
+module _ (files created : Named) (a : AuditJournalsArguments) (known : List (Option (List ℕ))) (image : List ℕ)
+    (given : AreGiven files a.journals.items known) (image_is : IsFile (files a.image.now) image)
+    (names : List (Bor (List ℕ))) (read_image : List ℕ) (names_are : names ≡ a.journals.items) (read : read_image ≡ image) where
+  these : (journals : List JournalText) → AreTexts names known journals → AreTexts a.journals.items known journals
+  these journals are = subst (λ ns. AreTexts ns known journals) names_are are
 
--- the report of its end is not complete
-pub untold_audit : {F : Type 0} (files created : Named) (a : AuditJournalsArguments) (journals : List JournalFile) (image : List ℕ)
-    (output : Option (List ℕ)) (r : Result ℕ F) → AreJournals files a.journals.items journals
-    → IsFile (files a.image.now) image
-    → OnErr r (ToTell (λ status errors. IsShownEnd files created a a.chart status journals image output errors))
-    → OnErr r (ToTell (λ status errors. JournalsEnded files created a status output errors))
-untold_audit files created a journals image output (Ok s) journals_are image_is untold = tt
-untold_audit files created a journals image output (Err fault) journals_are image_is untold =
-    (untold.0, untold.1, has_audited_so untold.0 (written (Some []) (Some untold.1)) untold.2)
-  where
-    has_audited_so : (s : ℕ) (errors : Written)
+  has_audited : (s : ℕ) (journals : List JournalText) (output : Option (List ℕ)) (errors : Written)
+      → AreTexts a.journals.items known journals → IsShownEnd files created a a.chart s journals image output errors
+      → JournalsEnded files created a s output errors
+  has_audited s journals output errors are (inl shown) =
+      inl (record {
+        journals = journals;
+        image = image;
+        journals_are = given_texts files a.journals.items known journals given are;
+        image_is = image_is;
+        shown = shown;
+      })
+  has_audited s journals output errors are (inr unbegun) = inr unbegun
+
+  -- without a chart, the order or a summary was written
+  module _ (none : a.chart ≡ None) (text : AuditText) (is : text ≡ text_of a.order) (output : Option (List ℕ)) where
+    plainly : (s : ℕ) (journals : List JournalText) (errors : Written)
+        → IsAuditEnd s files journals read_image text output errors
         → IsShownEnd files created a a.chart s journals image output errors
-        → JournalsEnded files created a s output errors
-    has_audited_so s errors (inl shown) =
-        inl (record {
-          journals = journals;
-          image = image;
-          journals_are = journals_are;
-          image_is = image_is;
-          shown = shown;
-        })
-    has_audited_so s errors (inr unbegun) = inr unbegun
+    plainly s journals errors ended =
+        subst (λ named. IsShownEnd files created a named s journals image output errors) (sym none)
+        (subst (λ asked. IsAuditEnd s files journals image asked output errors) is
+        (subst (λ i. IsAuditEnd s files journals i text output errors) read ended))
+
+    pub shown_ended : {F : Type 0} (r : Result ℕ F) (errors : Written)
+        → IfOk r (λ s. (journals : List JournalText) × AreTexts names known journals
+        × IsAuditEnd s files journals read_image text output errors)
+        → IfOk r (λ s. JournalsEnded files created a s output errors)
+    shown_ended (Ok s) errors (journals, are, ended) =
+        has_audited s journals output errors (these journals are) (plainly s journals errors ended)
+    shown_ended (Err e) errors ended = tt
+
+    pub shown_untold : {F : Type 0} (r : Result ℕ F)
+        → OnErr r ((journals : List JournalText) × AreTexts names known journals
+        × ToTell (λ s errors. IsAuditEnd s files journals read_image text output errors))
+        → OnErr r (ToTell (λ s errors. JournalsEnded files created a s output errors))
+    shown_untold (Ok s) untold = tt
+    shown_untold (Err e) (journals, are, untold) =
+        let told = written (Some []) (Some untold.1) in
+        (untold.0, untold.1, has_audited untold.0 journals output told (these journals are) (plainly untold.0 journals told untold.2))
+
+  -- with one, it was written to its file
+  module _ (name : Bor (List ℕ)) (named : a.chart ≡ Some name) (output : Option (List ℕ)) where
+    drawn : (s : ℕ) (journals : List JournalText) (errors : Written)
+        → IsDrawnEnd files created name.now s journals read_image errors
+        → IsShownEnd files created a a.chart s journals image output errors
+    drawn s journals errors ended =
+        subst (λ it. IsShownEnd files created a it s journals image output errors) (sym named)
+        (subst (λ i. IsDrawnEnd files created name.now s journals i errors) read ended)
+
+    pub drawn_ended : {F : Type 0} (r : Result ℕ F) (errors : Written)
+        → IfOk r (λ s. (journals : List JournalText) × AreTexts names known journals
+        × IsDrawnEnd files created name.now s journals read_image errors)
+        → IfOk r (λ s. JournalsEnded files created a s output errors)
+    drawn_ended (Ok s) errors (journals, are, ended) =
+        has_audited s journals output errors (these journals are) (drawn s journals errors ended)
+    drawn_ended (Err e) errors ended = tt
+
+    pub drawn_untold : {F : Type 0} (r : Result ℕ F)
+        → OnErr r ((journals : List JournalText) × AreTexts names known journals
+        × ToTell (λ s errors. IsDrawnEnd files created name.now s journals read_image errors))
+        → OnErr r (ToTell (λ s errors. JournalsEnded files created a s output errors))
+    drawn_untold (Ok s) untold = tt
+    drawn_untold (Err e) (journals, are, untold) =
+        let told = written (Some []) (Some untold.1) in
+        (untold.0, untold.1, has_audited untold.0 journals output told (these journals are) (drawn untold.0 journals told untold.2))
 
 -- what was asked for was written to a buffer that holds what the output does
-audited_with : (s : ℕ) (files journals : List JournalFile) (bytes image : List ℕ) (text asked : AuditText)
-    (buffer before after : Option (List ℕ)) (errors : Written) → files ≡ journals → bytes ≡ image → text ≡ asked
-    → buffer ≡ before → HasAuditStatus s files bytes text buffer after errors.before errors.after
-    → AreAuditedTo s journals image asked before errors
-audited_with s files journals bytes image text asked buffer before after errors files_are image_is text_is empty audited = (
-  after,
-  subst (λ j. HasAuditStatus s j image asked before after errors.before errors.after) files_are
-      (subst (λ i. HasAuditStatus s files i asked before after errors.before errors.after) image_is
-      (subst (λ t. HasAuditStatus s files bytes t before after errors.before errors.after) text_is
-      (subst (λ b. HasAuditStatus s files bytes text b after errors.before errors.after) empty audited))),
-)
+module _ (names : List (Bor (List ℕ))) (known : List (Option (List ℕ))) (image : List ℕ) (text : AuditText)
+    (buffer before after : Option (List ℕ)) (empty : buffer ≡ before) where
+  audited_with : (s : ℕ) (journals : List JournalText) (errors : Written)
+      → HasAuditStatus s journals image text buffer after errors.before errors.after
+      → AreAuditedTo s journals image text before errors
+  audited_with s journals errors audited =
+      (after, subst (λ b. HasAuditStatus s journals image text b after errors.before errors.after) empty audited)
 
-pub audited_to : {F : Type 0} (r : Result ℕ F) (files journals : List JournalFile) (bytes image : List ℕ)
-    (text asked : AuditText) (buffer before after : Option (List ℕ)) (errors : Written) → files ≡ journals → bytes ≡ image
-    → text ≡ asked → buffer ≡ before
-    → IfOk r (λ s. HasAuditStatus s files bytes text buffer after errors.before errors.after)
-    → (named : Named) → IfOk r (λ s. IsAuditEnd s named journals image asked before errors)
-audited_to (Ok s) files journals bytes image text asked buffer before after errors files_are image_is text_is empty audited named =
-    inl (audited_with s files journals bytes image text asked buffer before after errors files_are image_is text_is empty audited)
-audited_to (Err e) files journals bytes image text asked buffer before after errors files_are image_is text_is empty audited named = tt
+  pub audited_to : {F : Type 0} (r : Result ℕ F) (errors : Written)
+      → IfOk r (λ s. (journals : List JournalText) × AreTexts names known journals
+      × HasAuditStatus s journals image text buffer after errors.before errors.after)
+      → (named : Named) → IfOk r (λ s. (journals : List JournalText) × AreTexts names known journals
+      × IsAuditEnd s named journals image text before errors)
+  audited_to (Ok s) errors (journals, are, audited) named = (journals, are, inl (audited_with s journals errors audited))
+  audited_to (Err e) errors audited named = tt
 
--- or was to be reported
-pub audit_untold : {F : Type 0} (r : Result ℕ F) (files journals : List JournalFile) (bytes image : List ℕ)
-    (text asked : AuditText) (buffer before after : Option (List ℕ)) → files ≡ journals → bytes ≡ image → text ≡ asked
-    → buffer ≡ before → OnErr r (IsUntoldAudit files bytes text buffer after)
-    → (named : Named) → OnErr r (ToTell (λ s errors. IsAuditEnd s named journals image asked before errors))
-audit_untold (Ok s) files journals bytes image text asked buffer before after files_are image_is text_is empty untold named = tt
-audit_untold (Err e) files journals bytes image text asked buffer before after files_are image_is text_is empty untold named = (
-  untold.0,
-  untold.1,
-  inl (audited_with untold.0 files journals bytes image text asked buffer before after
-      (written (Some []) (Some untold.1)) files_are image_is text_is empty untold.2),
-)
-
--- an audit is shown: by the order or a summary, if no chart is named
-pub plainly_shown : {F : Type 0} (r : Result ℕ F) (files created : Named) (a : AuditJournalsArguments)
-    (chart : Option (Bor (List ℕ))) (text : AuditText) (journals : List JournalFile) (image : List ℕ)
-    (output : Option (List ℕ)) (errors : Written) → chart ≡ None → text ≡ text_of a.order
-    → IfOk r (λ s. IsAuditEnd s files journals image text output errors)
-    → IfOk r (λ s. IsShownEnd files created a chart s journals image output errors)
-plainly_shown r files created a chart text journals image output errors none is ended =
-    subst (λ named. IfOk r (λ s. IsShownEnd files created a named s journals image output errors)) (sym none)
-    (subst (λ asked. IfOk r (λ s. IsAuditEnd s files journals image asked output errors)) is ended)
-
-pub plainly_untold : {F : Type 0} (r : Result ℕ F) (files created : Named) (a : AuditJournalsArguments)
-    (chart : Option (Bor (List ℕ))) (text : AuditText) (journals : List JournalFile) (image : List ℕ)
-    (output : Option (List ℕ)) → chart ≡ None → text ≡ text_of a.order
-    → OnErr r (ToTell (λ s errors. IsAuditEnd s files journals image text output errors))
-    → OnErr r (ToTell (λ s errors. IsShownEnd files created a chart s journals image output errors))
-plainly_untold r files created a chart text journals image output none is untold =
-    subst (λ named. OnErr r (ToTell (λ s errors. IsShownEnd files created a named s journals image output errors))) (sym none)
-    (subst (λ asked. OnErr r (ToTell (λ s errors. IsAuditEnd s files journals image asked output errors))) is untold)
-
--- or by a chart, if one is named
-pub shown_drawn : {F : Type 0} (r : Result ℕ F) (files created : Named) (a : AuditJournalsArguments)
-    (chart : Option (Bor (List ℕ))) (name : Bor (List ℕ)) (journals : List JournalFile) (image : List ℕ)
-    (output : Option (List ℕ)) (errors : Written) → chart ≡ Some name
-    → IfOk r (λ s. IsDrawnEnd files created name.now s journals image errors)
-    → IfOk r (λ s. IsShownEnd files created a chart s journals image output errors)
-shown_drawn r files created a chart name journals image output errors is ended =
-    subst (λ named. IfOk r (λ s. IsShownEnd files created a named s journals image output errors)) (sym is) ended
-
-pub drawn_untold : {F : Type 0} (r : Result ℕ F) (files created : Named) (a : AuditJournalsArguments)
-    (chart : Option (Bor (List ℕ))) (name : Bor (List ℕ)) (journals : List JournalFile) (image : List ℕ)
-    (output : Option (List ℕ)) → chart ≡ Some name
-    → OnErr r (ToTell (λ s errors. IsDrawnEnd files created name.now s journals image errors))
-    → OnErr r (ToTell (λ s errors. IsShownEnd files created a chart s journals image output errors))
-drawn_untold r files created a chart name journals image output is untold =
-    subst (λ named. OnErr r (ToTell (λ s errors. IsShownEnd files created a named s journals image output errors))) (sym is)
-    untold
+  -- or was to be reported
+  pub audit_untold : {F : Type 0} (r : Result ℕ F)
+      → OnErr r ((journals : List JournalText) × AreTexts names known journals
+      × IsUntoldAudit journals image text buffer after)
+      → (named : Named) → OnErr r ((journals : List JournalText) × AreTexts names known journals
+      × ToTell (λ s errors. IsAuditEnd s named journals image text before errors))
+  audit_untold (Ok s) untold named = tt
+  audit_untold (Err e) (journals, are, untold) named = (
+    journals,
+    are,
+    (untold.0, untold.1, inl (audited_with untold.0 journals (written (Some []) (Some untold.1)) untold.2)),
+  )
 
 -- the chart was written to a file that was created
-drawn_so : (files created : Named) (name : List ℕ) (s : ℕ) (journals : List JournalFile) (image : List ℕ)
-    (held : Option (List ℕ)) (errors : Written) → IsCreated (created name) held
-    → IsAuditEnd s files journals image Chart held errors → IsDrawnEnd files created name s journals image errors
-drawn_so files created name s journals image held errors held_is (inl audited) =
-    inl (record { held = held; held_is = held_is; audited = audited })
-drawn_so files created name s journals image held errors held_is (inr unbegun) = inr unbegun
+module _ (files created : Named) (name : List ℕ) (names : List (Bor (List ℕ))) (given known : List (Option (List ℕ)))
+    (read_image image : List ℕ) (held : Option (List ℕ)) (known_are : given ≡ known) (image_is : read_image ≡ image) (held_is : IsCreated (created name) held) where
+  drawn_of : (s : ℕ) (journals : List JournalText) (errors : Written)
+      → IsAuditEnd s files journals image Chart held errors → IsDrawnEnd files created name s journals image errors
+  drawn_of s journals errors (inl audited) = inl (record { held = held; held_is = held_is; audited = audited })
+  drawn_of s journals errors (inr unbegun) = inr unbegun
 
-pub chart_drawn : {F : Type 0} (r : Result ℕ F) (files created : Named) (name : List ℕ) (journals : List JournalFile)
-    (image : List ℕ) (held : Option (List ℕ)) (errors : Written) → IsCreated (created name) held
-    → IfOk r (λ s. IsAuditEnd s files journals image Chart held errors)
-    → IfOk r (λ s. IsDrawnEnd files created name s journals image errors)
-chart_drawn (Ok s) files created name journals image held errors held_is ended =
-    drawn_so files created name s journals image held errors held_is ended
-chart_drawn (Err e) files created name journals image held errors held_is ended = tt
+  drawn_so : (s : ℕ) (journals : List JournalText) (errors : Written)
+      → IsAuditEnd s files journals read_image Chart held errors → IsDrawnEnd files created name s journals image errors
+  drawn_so s journals errors ended =
+      drawn_of s journals errors (subst (λ i. IsAuditEnd s files journals i Chart held errors) image_is ended)
 
-pub chart_untold : {F : Type 0} (r : Result ℕ F) (files created : Named) (name : List ℕ) (journals : List JournalFile)
-    (image : List ℕ) (held : Option (List ℕ)) → IsCreated (created name) held
-    → OnErr r (ToTell (λ s errors. IsAuditEnd s files journals image Chart held errors))
-    → OnErr r (ToTell (λ s errors. IsDrawnEnd files created name s journals image errors))
-chart_untold (Ok s) files created name journals image held held_is untold = tt
-chart_untold (Err e) files created name journals image held held_is untold = (
-  untold.0,
-  untold.1,
-  drawn_so files created name untold.0 journals image held (written (Some []) (Some untold.1)) held_is untold.2,
-)
+  the_texts : (journals : List JournalText) → AreTexts names given journals → AreTexts names known journals
+  the_texts journals are = subst (λ ks. AreTexts names ks journals) known_are are
+
+  pub chart_drawn : {F : Type 0} (r : Result ℕ F) (errors : Written)
+      → IfOk r (λ s. (journals : List JournalText) × AreTexts names given journals
+      × IsAuditEnd s files journals read_image Chart held errors)
+      → IfOk r (λ s. (journals : List JournalText) × AreTexts names known journals
+      × IsDrawnEnd files created name s journals image errors)
+  chart_drawn (Ok s) errors (journals, are, ended) =
+      (journals, the_texts journals are, drawn_so s journals errors ended)
+  chart_drawn (Err e) errors ended = tt
+
+  pub chart_untold : {F : Type 0} (r : Result ℕ F)
+      → OnErr r ((journals : List JournalText) × AreTexts names given journals
+      × ToTell (λ s errors. IsAuditEnd s files journals read_image Chart held errors))
+      → OnErr r ((journals : List JournalText) × AreTexts names known journals
+      × ToTell (λ s errors. IsDrawnEnd files created name s journals image errors))
+  chart_untold (Ok s) untold = tt
+  chart_untold (Err e) (journals, are, untold) =
+      (journals, the_texts journals are, (untold.0, untold.1, drawn_so untold.0 journals (written (Some []) (Some untold.1)) untold.2))

@@ -1,8 +1,8 @@
 pub mod Buffers
 pub mod Ended
 pub mod Explained
-pub mod AuditedFiles
 pub mod Statuses
 mod OrdersEnded
 mod ReplayEnds
+pub mod AuditedFiles
 mod TurnsEnds

@@ -33,7 +33,7 @@ use Rattle.rvm_move.specs.Ended.{ended_of, status_asked}
 use Rattle.rvm_files.specs.Files.{IsUnread, Named}
 use Rattle.rvm_refusal.specs.declared.refusal.Refusal.{Refusal}
 use Rattle.rvm_replay.specs.Turns.{HasTurnStatus}
-use Rattle.rvm_replay.specs.declared.file.JournalFile.{JournalFile}
+use Rattle.rvm_replay.specs.Journals.{JournalText}
 
 -- what a command was asked for that has ended with this status, if it is more than 1
 pub record IsAskedFor (a : Arguments) (s : ℕ) : Type 0 where
@@ -150,7 +150,7 @@ replayed files a n input output errors (inl e) =
 replayed files a n input output errors (inr u) = let it : suc (suc n) ≡ 1 = u.0 in omega (arith, it)
 
 -- an audit of journals has one of three statuses
-shown : (created : Named) (a : AuditJournalsArguments) (chart : Option (Bor (List ℕ))) (n : ℕ) (journals : List JournalFile)
+shown : (created : Named) (a : AuditJournalsArguments) (chart : Option (Bor (List ℕ))) (n : ℕ) (journals : List JournalText)
     (image : List ℕ) (output : Option (List ℕ)) (errors : Written)
     → AreShown created a chart (suc (suc n)) journals image output errors → n ≡ 1
 shown created a None zero journals image output errors has = absurd has.1
@@ -177,7 +177,7 @@ audited files created a n output errors (inl has) =
 audited files created a n output errors (inr u) = let it : suc (suc n) ≡ 1 = u.0 in absurd (omega (arith, it))
 
 -- so has a replay up to a turn
-turn_answered : (a : ReplayTurnsArguments) (n : ℕ) (journals : List JournalFile) (image : List ℕ)
+turn_answered : (a : ReplayTurnsArguments) (n : ℕ) (journals : List JournalText) (image : List ℕ)
     (session output told errors errors' : Option (List ℕ))
     → HasTurnStatus (suc (suc n)) journals image a.turns session output told errors errors' → n ≡ 1
 turn_answered a n journals image session output told errors errors' (inl has) = absurd has.ended

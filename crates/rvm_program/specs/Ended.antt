@@ -2,7 +2,7 @@
 use Rattle.std.specs.Borrow.{Bor}
 use Rattle.std.specs.Io.KnownBytes.{Appends}
 use Rattle.std.specs.Str.{bytes_eq}
-use Rattle.std.specs.Prelude.{◌≡◌, ◌⊎◌, ⊤, codes, ℕ, zero, suc, Bool, true, false, List, [], ◌∷◌, ◌++◌, Option, None, Some, IfSome, Result, option_map}
+use Rattle.std.specs.Prelude.{◌≡◌, ◌⊎◌, ⊤, codes, ℕ, zero, suc, Bool, true, false, List, [], ◌∷◌, Option, None, Some, Result, map, option_map}
 use Rattle.rvm_arguments.specs.declared.arguments.Arguments.{Arguments}
 use Rattle.rvm_arguments.specs.declared.arguments.Arguments.TheVariants.{Run, Live, Orders, Asm, Dis, Debug, Script, Move, Audit, Host, Tell, Replay, ReplayTurns, AuditJournals}
 use Rattle.rvm_arguments.specs.declared.arguments.AsmArguments.{AsmArguments}
@@ -30,10 +30,10 @@ use Rattle.rvm_host_command.specs.Hosted.{IsHostedTo}
 use Rattle.rvm_host_command.specs.Live.{IsLiveTo}
 use Rattle.rvm_replay.specs.Findings.{HasAuditStatus}
 use Rattle.rvm_replay.specs.Turns.{HasTurnStatus}
-use Rattle.rvm_journal.specs.Whole.{AreWholeLines}
+use Rattle.rvm_journal.specs.Whole.{IsJournal}
 use Rattle.rvm_replay.specs.declared.audit.AuditText.{AuditText}
 use Rattle.rvm_replay.specs.declared.audit.AuditText.TheVariants.{Chart, Order, Summary}
-use Rattle.rvm_replay.specs.declared.file.JournalFile.{JournalFile}
+use Rattle.rvm_replay.specs.Journals.{AreTexts, JournalText}
 use Rattle.rvm_move.specs.Ended.{IsMoved, IsNotMoved}
 use Rattle.rvm_move.specs.Orders.{IsAudited, IsNotAudited}
 use Rattle.rvm_files.specs.Files.{IsApart, IsCreated, IsFile, IsFileRefusal, IsFirstInput, IsImage, IsInput, IsOpened, IsRefusedFile, IsUnread, Named, file_text, symbols_name}
@@ -207,10 +207,6 @@ abbrev pub IsFileOrNone : (files : Named) → (name : Option (Bor (List ℕ))) �
 IsFileOrNone files None bytes = bytes ≡ []
 IsFileOrNone files (Some name) bytes = IsFile (files name.now) bytes
 
--- these are the whole lines of a file, if its bytes are known
-abbrev pub IsJournal : (known : Option (List ℕ)) → (lines : List ℕ) → Type 0
-IsJournal known lines = IfSome known (λ bytes. AreWholeLines bytes lines)
-
 -- a session is all that standard input gives, or all bytes of a file
 abbrev pub IsGiven : (standard : Bool) → (known input session : Option (List ℕ)) → Type 0
 IsGiven true known input session = session ≡ input
@@ -264,17 +260,15 @@ abbrev pub ReplayEnded : (files : Named) → ReplayArguments → (status : ℕ) 
 ReplayEnded files a status input output errors =
     HasReplayed files a status input output errors ⊎ ((status ≡ 1) × IsNotBegun files errors)
 
--- these are the journals in the files with these names, in order
-abbrev pub AreJournals : (files : Named) → (names : List (Bor (List ℕ))) → List JournalFile → Type 0
-AreJournals files [] [] = ⊤
-AreJournals files (n ∷ ns) (j ∷ js) = IsJournal (files n.now) j.bytes.items × AreJournals files ns js
-AreJournals files names journals = ⊥
+-- these are the bytes of files with these names, if they are known, all of which are left
+abbrev pub AreGiven : (files : Named) → (names : List (Bor (List ℕ))) → (left : List (Option (List ℕ))) → Type 0
+AreGiven files [] [] = ⊤
+AreGiven files (n ∷ ns) (k ∷ ks) = IsOpened (files n.now) k × AreGiven files ns ks
+AreGiven files names left = ⊥
 
--- one more journal, which has the whole lines of a file
-pub record IsOneMore (known : Option (List ℕ)) (before after : List JournalFile) : Type 0 where
-  pub journal : JournalFile
-  pub lines : IsJournal known journal.bytes.items
-  pub last : after ≡ before ++ journal ∷ []
+-- these are the journals in the files with these names, in order
+abbrev pub AreJournals : (files : Named) → (names : List (Bor (List ℕ))) → List JournalText → Type 0
+AreJournals files names journals = AreTexts names (map (λ (n : Bor (List ℕ)). files n.now) names) journals
 
 -- what an audit of journals writes: the order, if that is asked for, or else a summary
 abbrev pub text_of : (order : Bool) → AuditText
@@ -282,26 +276,26 @@ text_of true = Order
 text_of false = Summary
 
 -- journals were audited, and the audit wrote after these bytes
-abbrev pub AreAuditedTo : (status : ℕ) → List JournalFile → (image : List ℕ) → AuditText → (before : Option (List ℕ))
+abbrev pub AreAuditedTo : (status : ℕ) → List JournalText → (image : List ℕ) → AuditText → (before : Option (List ℕ))
     → (errors : Written) → Type 0
 AreAuditedTo status journals image text before errors =
     (after : Option (List ℕ)) × HasAuditStatus status journals image text before after errors.before errors.after
 
 -- what was read of the files was audited, or the audit did not begin
-abbrev pub IsAuditEnd : (status : ℕ) → (files : Named) → List JournalFile → (image : List ℕ) → AuditText
+abbrev pub IsAuditEnd : (status : ℕ) → (files : Named) → List JournalText → (image : List ℕ) → AuditText
     → (before : Option (List ℕ)) → (errors : Written) → Type 0
 IsAuditEnd status files journals image text before errors =
     AreAuditedTo status journals image text before errors ⊎ ((status ≡ 1) × IsNotBegun files errors)
 
 -- journals were audited, and the audit wrote a chart to the file with this name
-pub record AreDrawn (created : Named) (name : List ℕ) (status : ℕ) (journals : List JournalFile) (image : List ℕ)
+pub record AreDrawn (created : Named) (name : List ℕ) (status : ℕ) (journals : List JournalText) (image : List ℕ)
     (errors : Written) : Type 0 where
   pub held : Option (List ℕ)
   pub held_is : IsCreated (created name) held
   pub audited : AreAuditedTo status journals image Chart held errors
 
 -- what was read of the files was audited and drawn, or the audit did not begin
-abbrev pub IsDrawnEnd : (files created : Named) → (name : List ℕ) → (status : ℕ) → List JournalFile → (image : List ℕ)
+abbrev pub IsDrawnEnd : (files created : Named) → (name : List ℕ) → (status : ℕ) → List JournalText → (image : List ℕ)
     → (errors : Written) → Type 0
 IsDrawnEnd files created name status journals image errors =
     AreDrawn created name status journals image errors ⊎ ((status ≡ 1) × IsNotBegun files errors)
@@ -309,7 +303,7 @@ IsDrawnEnd files created name status journals image errors =
 -- journals were audited, and the audit wrote the order or a summary after what the output held; or a chart to its file, if
 -- one is named
 abbrev pub AreShown : (created : Named) → AuditJournalsArguments → (chart : Option (Bor (List ℕ))) → (status : ℕ)
-    → List JournalFile → (image : List ℕ) → (output : Option (List ℕ)) → (errors : Written) → Type 0
+    → List JournalText → (image : List ℕ) → (output : Option (List ℕ)) → (errors : Written) → Type 0
 AreShown created a None status journals image output errors =
     AreAuditedTo status journals image (text_of a.order) output errors
 AreShown created a (Some name) status journals image output errors =
@@ -317,14 +311,14 @@ AreShown created a (Some name) status journals image output errors =
 
 -- what was read of the files was audited and shown, or the audit did not begin
 abbrev pub IsShownEnd : (files created : Named) → AuditJournalsArguments → (chart : Option (Bor (List ℕ))) → (status : ℕ)
-    → List JournalFile → (image : List ℕ) → (output : Option (List ℕ)) → (errors : Written) → Type 0
+    → List JournalText → (image : List ℕ) → (output : Option (List ℕ)) → (errors : Written) → Type 0
 IsShownEnd files created a chart status journals image output errors =
     AreShown created a chart status journals image output errors ⊎ ((status ≡ 1) × IsNotBegun files errors)
 
 -- `audit-journals` was given the files that it names
 pub record HasAudited (files created : Named) (a : AuditJournalsArguments) (status : ℕ) (output : Option (List ℕ))
     (errors : Written) : Type 0 where
-  pub journals : List JournalFile
+  pub journals : List JournalText
   pub image : List ℕ
   pub journals_are : AreJournals files a.journals.items journals
   pub image_is : IsFile (files a.image.now) image
@@ -337,26 +331,26 @@ JournalsEnded files created a status output errors =
     HasAudited files created a status output errors ⊎ ((status ≡ 1) × IsNotBegun files errors)
 
 -- a session was answered for the guest of journals as it was after a turn, or not, and wrote to a buffer in front of the output
-abbrev pub IsTurnsAnswer : ReplayTurnsArguments → (status : ℕ) → List JournalFile → (image : List ℕ)
+abbrev pub IsTurnsAnswer : ReplayTurnsArguments → (status : ℕ) → List JournalText → (image : List ℕ)
     → (session output : Option (List ℕ)) → (errors : Written) → Type 0
 IsTurnsAnswer a status journals image session output errors =
     (told : Option (List ℕ)) × HasTurnStatus status journals image a.turns session output told errors.before errors.after
 
 -- such a session, or it did not begin
-abbrev pub IsTurnsAnswerEnd : (status : ℕ) → (files : Named) → ReplayTurnsArguments → List JournalFile → (image : List ℕ)
+abbrev pub IsTurnsAnswerEnd : (status : ℕ) → (files : Named) → ReplayTurnsArguments → List JournalText → (image : List ℕ)
     → (session output : Option (List ℕ)) → (errors : Written) → Type 0
 IsTurnsAnswerEnd status files a journals image session output errors =
     IsTurnsAnswer a status journals image session output errors ⊎ ((status ≡ 1) × IsNotBegun files errors)
 
 -- the session that is named was answered so
-pub record IsTurnsEnd (files : Named) (a : ReplayTurnsArguments) (status : ℕ) (journals : List JournalFile) (image : List ℕ)
+pub record IsTurnsEnd (files : Named) (a : ReplayTurnsArguments) (status : ℕ) (journals : List JournalText) (image : List ℕ)
     (input output : Option (List ℕ)) (errors : Written) : Type 0 where
   pub session : Option (List ℕ)
   pub session_is : IsSession files a.script.now input session
   pub answered : IsTurnsAnswer a status journals image session output errors
 
 -- what was read of the files was replayed up to a turn, or the replay did not begin
-abbrev pub AreTurnsMade : (files : Named) → ReplayTurnsArguments → (status : ℕ) → List JournalFile → (image : List ℕ)
+abbrev pub AreTurnsMade : (files : Named) → ReplayTurnsArguments → (status : ℕ) → List JournalText → (image : List ℕ)
     → (input output : Option (List ℕ)) → (errors : Written) → Type 0
 AreTurnsMade files a status journals image input output errors =
     IsTurnsEnd files a status journals image input output errors ⊎ ((status ≡ 1) × IsNotBegun files errors)
@@ -364,7 +358,7 @@ AreTurnsMade files a status journals image input output errors =
 -- `replay --turns` was given the files that it names
 pub record HaveMadeTurns (files : Named) (a : ReplayTurnsArguments) (status : ℕ) (input output : Option (List ℕ))
     (errors : Written) : Type 0 where
-  pub journals : List JournalFile
+  pub journals : List JournalText
   pub image : List ℕ
   pub journals_are : AreJournals files a.journals.items journals
   pub image_is : IsFile (files a.image.now) image

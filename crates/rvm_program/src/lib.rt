@@ -60,7 +60,8 @@ const REPORT_SIZE: usize = 256;
 ///
 /// At most one byte more is read of a file than it may have. An image of plain bytes may have as many bytes as RAM; with
 /// more it is refused with `OutsideRam`. An ELF file, what `dis` lists, an assembly text and each other file of `host`
-/// may have `MAX_FILE_SIZE` bytes, and a journal `MAX_JOURNAL_SIZE`; with more they are refused with `TooLong`. `run`
+/// may have `MAX_FILE_SIZE` bytes; with more they are refused with `TooLong`. So is a journal with more than
+/// `MAX_JOURNAL_SIZE` if `--chart` or `--turns` is given; else it is read line by line, however long it is. `run`
 /// reads at most one byte for the console for each turn; it refuses with `TooLong` if these would be more than
 /// `MAX_FILE_SIZE` bytes.
 pub fn perform<

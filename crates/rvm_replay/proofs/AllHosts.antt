@@ -4,7 +4,7 @@ use Rattle.std.proofs.lemmas.List.{map-append, take_more}
 use Rattle.std.specs.Prelude.{slice_get}
 use Rattle.std.proofs.lemmas.Option.{same_Some}
 use Rattle.rvm_recorder.specs.History.{Recording}
-use Rattle.rvm_replay.specs.declared.file.JournalFile.{JournalFile}
+use Rattle.rvm_replay.specs.Journals.{JournalText}
 use Rattle.rvm_replay.specs.Audited.{AllDone, AreOfWorld, AreReplayed}
 
 -- one more element
@@ -18,7 +18,7 @@ push_each P (z ∷ xs) x each here (suc i) y at =
     push_each (λ j. P (suc j)) xs x (λ j w there. each (suc j) w there) here i y at
 
 -- the hosts of a world did what their journals tell
-pub replayed : (files : List JournalFile) (image : List ℕ) (all : List Recording) → AreOfWorld files (length all)
+pub replayed : (files : List JournalText) (image : List ℕ) (all : List Recording) → AreOfWorld files (length all)
     → AllDone files image (length all) all → AreReplayed files image all
 replayed files image all world each = record { world = world; each = each }
 

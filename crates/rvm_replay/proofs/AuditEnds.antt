@@ -31,10 +31,11 @@ use Rattle.rvm_replay.specs.declared.audit.Extent.{Extent}
 use Rattle.rvm_replay.specs.declared.audit.OrderText.{OrderText}
 use Rattle.rvm_replay.specs.declared.audit.OrderText.TheVariants.{Events, Chart}
 use Rattle.rvm_replay.specs.declared.audit.Unordered.TheVariants.{Contradicted, Undecided}
-use Rattle.rvm_replay.specs.declared.file.JournalFile.{JournalFile}
+use Rattle.rvm_replay.specs.Journals.{AreTexts, JournalText, names_in, plain_names}
 use Rattle.rvm_replay.specs.declared.file.JournalsFault.{JournalsFault}
 use Rattle.rvm_replay.specs.declared.file.JournalsFault.TheVariants as journals
 use Rattle.rvm_replay.proofs.OneWorld.{has_one_guest}
+use Rattle.rvm_replay.proofs.Worlds.{named_same}
 
 -- a merge ended before all was taken, up to these places
 pub ends_at : (all : List Recording) (places : ℕ → ℕ)
@@ -55,7 +56,7 @@ few_counts all counts is few =
     let size = ap length is in omega (arith, size, few, length-map all (λ (r : Recording). count_of r))
 
 -- journals that have no order contradict one another, or what was cut off may explain that
-module _ (files : List JournalFile) (all : List Recording) (js js1 js2 : List (Bor History)) (extent : Extent) (cuts cuts' : List Bool)
+module _ (files : List JournalText) (all : List Recording) (js js1 js2 : List (Bor History)) (extent : Extent) (cuts cuts' : List Bool)
     (same : histories_of js ≡ histories_in all) (is1 : js1 ≡ js) (is2 : js2 ≡ js)
     (audit : IsAudit (journals_of (histories_of js1)) (NoOrder extent.places)) (counts_are : extent.counts.items ≡ map count_of all)
     (marks : cuts ≡ cuts_of files (length all)) (marked_are : cuts' ≡ cuts) (found : Bool) where
@@ -80,7 +81,7 @@ module _ (files : List JournalFile) (all : List Recording) (js js1 js2 : List (B
   )
 
 -- the same of outlines
-module _ (files : List JournalFile) (all : List Recording) (extent : Extent) (cuts cuts' : List Bool) (there : IsExtent all extent)
+module _ (files : List JournalText) (all : List Recording) (extent : Extent) (cuts cuts' : List Bool) (there : IsExtent all extent)
     (marks : cuts ≡ cuts_of files (length all)) (marked_are : cuts' ≡ cuts) (found : Bool) where
   pub outlines_contradicted : (found ≡ true → AreContradicted (histories_in all) cuts') → found ≡ true
       → IsUnordered files all (Contradicted extent)
@@ -91,18 +92,18 @@ module _ (files : List JournalFile) (all : List Recording) (extent : Extent) (cu
   outlines_explained holds is = (there, subst (AreExplained (histories_in all)) (marked_are ∙ marks) (holds is))
 
 -- a fault of journals whose events are asked for
-pub events_fault : (files : List JournalFile) (image : List ℕ) (text : OrderText) (fault : JournalsFault)
+pub events_fault : (files : List JournalText) (image : List ℕ) (text : OrderText) (fault : JournalsFault)
     → IsJournalsFault 4294967295 files image fault → IsJournalsFault (capacity_of (text_of text)) files image fault
 events_fault files image Events fault is = is
 events_fault files image Chart fault is = is
 
 -- for each host there is a mark
-pub marks_long : (files : List JournalFile) (n : ℕ) → length (cuts_of files n) ≡ n
+pub marks_long : (files : List JournalText) (n : ℕ) → length (cuts_of files n) ≡ n
 marks_long files zero = refl
 marks_long files (suc x) = length-append (cuts_of files x) (is_cut files x ∷ []) ∙ ap (λ k. k + 1) (marks_long files x) ∙ omega arith
 
 -- the journals have no order, which was reported
-module _ (files : List JournalFile) (all : List Recording) (errors errors' : Option (List ℕ)) where
+module _ (files : List JournalText) (all : List Recording) (errors errors' : Option (List ℕ)) where
   pub refuted : (places : ℕ → ℕ) → EndsAt all places → AreContradicted (histories_in all) (cuts_of files (length all))
       → Appends errors errors' (refuted_text files all places) → HasNoOrder 1 files all errors errors'
   refuted places ends is told = record { places = places; ends = ends; contradicted = is; told = told }
@@ -132,7 +133,7 @@ module _ (files : List JournalFile) (all : List Recording) (errors errors' : Opt
   not_zero P (Err e) is = tt
 
 -- the same, where a report is not complete
-module _ (files : List JournalFile) (all : List Recording) where
+module _ (files : List JournalText) (all : List Recording) where
   pub refuted_untold : (places : ℕ → ℕ) → EndsAt all places
       → AreContradicted (histories_in all) (cuts_of files (length all)) → IsUntoldNoOrder files all
   refuted_untold places ends is =
@@ -151,7 +152,7 @@ module _ (files : List JournalFile) (all : List Recording) where
   no_order_untold (Err e) text out (s, report, is) =
       (s, report, no_order files all (Some []) (Some report) s text out is)
 
-module _ (files : List JournalFile) (all : List Recording) (text : AuditText) (out out' errors errors' : Option (List ℕ)) where
+module _ (files : List JournalText) (all : List Recording) (text : AuditText) (out out' errors errors' : Option (List ℕ)) where
   -- memory ran out, which was reported
   pub out_of_memory : IsTold (refused refusal.OutOfMemory) errors errors' → out' ≡ out
       → HasFindingStatus 1 files all text out out' errors errors'
@@ -167,7 +168,7 @@ module _ (files : List JournalFile) (all : List Recording) (text : AuditText) (o
   in_order events order written same = (record { events = events; order = order; written = written }, same)
 
 -- the same, where a report is not complete
-module _ (files : List JournalFile) (all : List Recording) (text : AuditText) (out out' : Option (List ℕ)) where
+module _ (files : List JournalText) (all : List Recording) (text : AuditText) (out out' : Option (List ℕ)) where
   pub memory_untold : out' ≡ out → IsUntoldFinding files all text out out'
   memory_untold same =
       let report = refused_text (refused refusal.OutOfMemory) ++ codes "\n" in
@@ -179,7 +180,7 @@ module _ (files : List JournalFile) (all : List Recording) (text : AuditText) (o
       (1, report, unwritten files all text out out' (Some []) (Some report) refl)
 
 -- what was found of replayed journals is what the audit found
-module _ (files : List JournalFile) (image : List ℕ) (all : List Recording) (are : AreReplayed files image all)
+module _ (files : List JournalText) (image : List ℕ) (all : List Recording) (are : AreReplayed files image all)
     (law : (version origin : ℕ) (g : GuestState) (limits : ℕ → ℕ) (j : Journals) (events : List Event)
     → is_valid g.guest ≡ true → AreNew version origin g limits j.openings → IsOrder j events
     → IsWorldRun (new_world board version origin g.guest j.openings.count limits) origin g.guest j events)
@@ -213,33 +214,26 @@ module _ (files : List JournalFile) (image : List ℕ) (all : List Recording) (a
   all_untold (Err e) untold = (untold.0, untold.1, audited untold.0 (Some []) (Some untold.1) untold.2)
 
 -- the report of why journals are not audited
-pub told_of : (files : List JournalFile) (f : JournalsFault) → (report : List ℕ) × IsFaultTold files f (Some []) (Some report)
-told_of files journals.OutOfMemory = (refused_text (refused refusal.OutOfMemory) ++ codes "\n", refl)
-told_of files journals.NoGuest = (codes "no journal begins with a guest" ++ codes "\n", refl)
-told_of files (journals.File i f) = (fault_line (name_of (slice_get files i)) f, refl)
+pub told_of : (names : List (List ℕ)) (f : JournalsFault) → (report : List ℕ) × IsFaultTold names f (Some []) (Some report)
+told_of names journals.OutOfMemory = (refused_text (refused refusal.OutOfMemory) ++ codes "\n", refl)
+told_of names journals.NoGuest = (codes "no journal begins with a guest" ++ codes "\n", refl)
+told_of names (journals.File i f) = (fault_line (name_of (slice_get names i)) f, refl)
 
 -- journals are not audited
-module _ (files : List JournalFile) (image : List ℕ) (text : AuditText) (out out' : Option (List ℕ)) (fault : JournalsFault)
+module _ (files : List JournalText) (image : List ℕ) (text : AuditText) (out out' : Option (List ℕ)) (fault : JournalsFault)
     (reason : IsJournalsFault (capacity_of text) files image fault) where
-  pub not_audited : (errors errors' : Option (List ℕ)) → IsFaultTold files fault errors errors' → out' ≡ out
+  pub not_audited : (errors errors' : Option (List ℕ)) → IsFaultTold (names_in files) fault errors errors' → out' ≡ out
       → HasAuditStatus 1 files image text out out' errors errors'
   not_audited errors errors' told same = inl (record { fault = fault; reason = reason; told = told; same = same })
 
   pub not_audited_untold : out' ≡ out → IsUntoldAudit files image text out out'
   not_audited_untold same =
-      let told = told_of files fault in (1, told.0, not_audited (Some []) (Some told.0) told.1 same)
+      let told = told_of (names_in files) fault in (1, told.0, not_audited (Some []) (Some told.0) told.1 same)
 
 -- what was written is of the order of the rule
 pub with_merge : {F : Type 0} (r : Result Unit F) (Merge Written : Type 0) → Merge → OnOk r Written → OnOk r (Merge × Written)
 with_merge (Ok done) Merge Written merge written = (merge, written)
 with_merge (Err e) Merge Written merge written = tt
-
--- a text that is asked for by its name
-pub untold_as : {F : Type 0} (r : Result ℕ F) (files : List JournalFile) (image : List ℕ) (named text : AuditText)
-    (out out' : Option (List ℕ)) → text ≡ named → OnErr r (IsUntoldAudit files image named out out')
-    → OnErr r (IsUntoldAudit files image text out out')
-untold_as r files image named text out out' is untold =
-    subst (λ t. OnErr r (IsUntoldAudit files image t out out')) (sym is) untold
 
 -- one outline more
 pub one_outline : (all : List Recording) (i : ℕ) (r : Recording) (refs more : List (Bor PlainOutline)) (t : Bor PlainOutline)
@@ -255,3 +249,44 @@ one_outline all i r refs more t less at so own is =
 pub none_outlined : (all : List Recording) → AreOutlinesOf (histories_in (take 0 all)) []
 none_outlined [] = record { count_is = refl; each = λ x t at. absurd cc }
 none_outlined (r ∷ all) = record { count_is = refl; each = λ x t at. absurd cc }
+
+-- journals with these texts were audited
+module _ (names : List (Bor (List ℕ))) (known : List (Option (List ℕ))) (image : List ℕ) (text : AuditText)
+    (out out' : Option (List ℕ)) where
+  pub texts_audited : {E : Type 0} (r : Result ℕ E) (files : List JournalText) (errors errors' : Option (List ℕ))
+      → AreTexts names known files → IfOk r (λ s. HasAuditStatus s files image text out out' errors errors')
+      → IfOk r (λ s. (files : List JournalText) × AreTexts names known files
+      × HasAuditStatus s files image text out out' errors errors')
+  texts_audited (Ok s) files errors errors' are ended = (files, are, ended)
+  texts_audited (Err e) files errors errors' are ended = tt
+
+  pub texts_untold : {E : Type 0} (r : Result ℕ E) (files : List JournalText) → AreTexts names known files
+      → OnErr r (IsUntoldAudit files image text out out')
+      → OnErr r ((files : List JournalText) × AreTexts names known files × IsUntoldAudit files image text out out')
+  texts_untold (Ok s) files are untold = tt
+  texts_untold (Err e) files are untold = (files, are, untold)
+
+-- they are not audited
+module _ (names : List (Bor (List ℕ))) (known : List (Option (List ℕ))) (image : List ℕ) (text : AuditText)
+    (out : Option (List ℕ)) (fault : JournalsFault)
+    (reason : (files : List JournalText) × AreTexts names known files × IsJournalsFault (capacity_of text) files image fault) where
+  pub texts_refused : (errors errors' : Option (List ℕ)) → IsFaultTold (plain_names names) fault errors errors'
+      → (files : List JournalText) × AreTexts names known files × HasAuditStatus 1 files image text out out errors errors'
+  texts_refused errors errors' told = (
+    reason.0,
+    reason.1,
+    not_audited reason.0 image text out out fault reason.2 errors errors'
+        (subst (λ ns. IsFaultTold ns fault errors errors') (named_same names known reason.0 reason.1) told) refl,
+  )
+
+  pub texts_refused_untold : (files : List JournalText) × AreTexts names known files × IsUntoldAudit files image text out out
+  texts_refused_untold = (reason.0, reason.1, not_audited_untold reason.0 image text out out fault reason.2 refl)
+
+-- what was asked for by its name
+pub untold_texts_as : {F : Type 0} (r : Result ℕ F) (names : List (Bor (List ℕ))) (known : List (Option (List ℕ)))
+    (image : List ℕ) (named text : AuditText) (out out' : Option (List ℕ)) → text ≡ named
+    → OnErr r ((files : List JournalText) × AreTexts names known files × IsUntoldAudit files image named out out')
+    → OnErr r ((files : List JournalText) × AreTexts names known files × IsUntoldAudit files image text out out')
+untold_texts_as r names known image named text out out' is untold =
+    subst (λ t. OnErr r ((files : List JournalText) × AreTexts names known files × IsUntoldAudit files image t out out')) (sym is)
+    untold

@@ -1,5 +1,6 @@
 mod OnlyOne
 mod AllHosts
+pub mod Worlds
 pub mod Behind
 mod HostJournals
 mod JournalFaults

@@ -15,10 +15,9 @@ use Rattle.rvm_audit.specs.Orders.{IsOrder, Journals}
 use Rattle.rvm_audit.specs.Worlds.{AreNew, IsWorldRun}
 use Rattle.rvm_journal.specs.declared.header.Header.{Header}
 use Rattle.rvm_journal.specs.declared.header.Image.{Image}
-use Rattle.rvm_replay.specs.declared.file.JournalFile.{JournalFile}
 use Rattle.rvm_replay.specs.declared.headers.Wanted.TheVariants.{OfHost, WithGuest}
 use Rattle.rvm_replay.specs.Audited.{AreReplayed, HasDone, HasOneGuest, IsHostBy, IsOnlyOne, is_wanted, journals_in}
-use Rattle.rvm_replay.specs.Journals.{header_number, IsGuestNamed}
+use Rattle.rvm_replay.specs.Journals.{IsGuestNamed, JournalText, header_number, headers_in}
 
 -- TESTS
 
@@ -56,12 +55,12 @@ valid_of image (Some i) g named = named.2
 abbrev blank : Recording
 blank = record { journal = no_history; capacity = 0 }
 
-module _ (files : List JournalFile) (image : List ℕ) (all : List Recording) (are : AreReplayed files image all) where
+module _ (files : List JournalText) (image : List ℕ) (all : List Recording) (are : AreReplayed files image all) where
   abbrev opening : Header
   opening = are.world.opening
 
   abbrev first : ℕ
-  first = are.world.first
+  first = are.world.one_world.first
 
   abbrev origin : ℕ
   origin = are.world.opening.host
@@ -69,29 +68,36 @@ module _ (files : List JournalFile) (image : List ℕ) (all : List Recording) (a
   -- the header of a journal tells the number of hosts
   hosts_are : (i : ℕ) (h : Header) → i < length files → header_number files i ≡ Some h → h.hosts ≡ length all
   hosts_are i h less at =
-      let told = are.world.headers i less in
+      let told = are.world.one_world.headers i less in
       ap (λ (z : Header). z.hosts) (same_Some h told.header (sym at ∙ told.header_is)) ∙ told.hosts_are
+
+  first_below : first < length files
+  first_below = are.world.one_world.one_guest.0
+
+  -- the host with the guest is one of them
+  origin_there : origin < length all
+  origin_there =
+      let told = are.world.one_world.headers first first_below in
+      subst (λ (h : Header). h.host < length all)
+      (same_Some told.header opening (sym told.header_is ∙ are.world.one_world.opening_is)) told.there
 
   -- the journal of the host with the guest
   is_first : (i : ℕ) (h : Header) → i ≡ first → header_number files i ≡ Some h → h ≡ opening
-  is_first i h is at = same_Some h opening (sym at ∙ ap (header_number files) is ∙ are.world.opening_is)
-
-  first_below : first < length files
-  first_below = are.world.one_guest.0
+  is_first i h is at = same_Some h opening (sym at ∙ ap (header_number files) is ∙ are.world.one_world.opening_is)
 
   -- whether that journal is the one of a host
   is_of : (x : ℕ) → is_wanted (OfHost x) (header_number files first) ≡ (origin == x)
-  is_of x = ap (is_wanted (OfHost x)) are.world.opening_is
+  is_of x = ap (is_wanted (OfHost x)) are.world.one_world.opening_is
 
   has_guest : is_some opening.guest ≡ true
-  has_guest = sym (ap (is_wanted WithGuest) are.world.opening_is) ∙ are.world.one_guest.1
+  has_guest = sym (ap (is_wanted WithGuest) are.world.one_world.opening_is) ∙ are.world.one_world.one_guest.1
 
   -- a host of a journal is the one of its header
   host_is : (x i : ℕ) (h : Header) → header_number files i ≡ Some h → is_wanted (OfHost x) (header_number files i) ≡ true → h.host ≡ x
   host_is x i h at wanted = eqb-true h.host x (sym (ap (is_wanted (OfHost x)) at) ∙ wanted)
 
   -- each other host begins without a guest
-  other_by : (x : ℕ) (r : Recording) (found : Option ℕ) → (x == origin) ≡ false → IsOnlyOne files (OfHost x) found
+  other_by : (x : ℕ) (r : Recording) (found : Option ℕ) → (x == origin) ≡ false → IsOnlyOne (headers_in files) (OfHost x) found
       → IsHostBy files image (length all) x found r → r.journal.opening ≡ new_host None x (length all) 4096 3
   other_by x r None other only done = done.opening
   other_by x r (Some i) other only done =
@@ -99,14 +105,14 @@ module _ (files : List JournalFile) (image : List ℕ) (all : List Recording) (a
       let here : h.host ≡ x = host_is x i h done.header_is only.1 in
       let without : is_some h.guest ≡ false =
       false_if (is_some h.guest)
-      (λ e. (let same = is_first i h (are.world.one_guest.2 i only.0 (ap (is_wanted WithGuest) done.header_is ∙ e)) done.header_is in
+      (λ e. (let same = is_first i h (are.world.one_world.one_guest.2 i only.0 (ap (is_wanted WithGuest) done.header_is ∙ e)) done.header_is in
       true≢false (sym (eq-eqb x origin (sym here ∙ ap (λ (z : Header). z.host) same)) ∙ other))) in
       let named : done.host.guest ≡ None = subst (λ g. IsGuestNamed g image done.host.guest) (no_guest h.guest without) done.host.guest_is in
       let count = hosts_are i h only.0 done.header_is in
       done.host.opening ∙ (λ j. new_host (named j) (here j) (count j) 4096 3)
 
   -- the host with the guest begins with it
-  origin_by : (r : Recording) (found : Option ℕ) → IsOnlyOne files (OfHost origin) found
+  origin_by : (r : Recording) (found : Option ℕ) → IsOnlyOne (headers_in files) (OfHost origin) found
       → IsHostBy files image (length all) origin found r
       → (guest : GuestState) × IsGuestNamed opening.guest image (Some guest)
       × (r.journal.opening ≡ new_host (Some guest) origin (length all) 4096 3)
@@ -131,7 +137,7 @@ module _ (files : List JournalFile) (image : List ℕ) (all : List Recording) (a
   begun : (guest : GuestState) × IsGuestNamed opening.guest image (Some guest)
       × ((at origin).journal.opening ≡ new_host (Some guest) origin (length all) 4096 3)
   begun =
-      let done = done_at origin are.world.there in origin_by (at origin) done.found done.only done.done
+      let done = done_at origin origin_there in origin_by (at origin) done.found done.only done.done
 
   opened_by : (x : ℕ) (b : Bool) → x < length all → (x == origin) ≡ b
       → (at x).journal.opening ≡ new_host (if b then Some begun.0 else None) x (length all) 4096 3
@@ -154,7 +160,7 @@ module _ (files : List JournalFile) (image : List ℕ) (all : List Recording) (a
   }
 
 -- an order of their journals is a run of that world, by the law of the audit
-pub has_one_guest : (files : List JournalFile) (image : List ℕ) (all : List Recording) (events : List Event)
+pub has_one_guest : (files : List JournalText) (image : List ℕ) (all : List Recording) (events : List Event)
     → (are : AreReplayed files image all) → IsOrder (journals_in all) events
     → ((version origin : ℕ) (g : GuestState) (limits : ℕ → ℕ) (j : Journals) (events : List Event)
     → is_valid g.guest ≡ true → AreNew version origin g limits j.openings → IsOrder j events

@@ -6,31 +6,31 @@ use Rattle.std.specs.Io.KnownBytes.{Appends}
 use Rattle.rvm_journal.specs.Headers.{header_at}
 use Rattle.rvm_replay.specs.Audited.{is_wanted}
 use Rattle.rvm_replay.specs.PlaceLines.{journal_name, place_line, place_lines}
-use Rattle.rvm_replay.specs.declared.file.JournalFile.{JournalFile}
+use Rattle.rvm_replay.specs.Journals.{JournalText}
 use Rattle.rvm_replay.specs.declared.headers.Wanted.TheVariants.{OfHost}
 
 -- the next journal is that of a host, or it is not
-module _ (x : ℕ) (files : List JournalFile) (i : ℕ) (f : JournalFile) (less : i < length files) (is : get_or files i f ≡ f) where
+module _ (x : ℕ) (files : List JournalText) (i : ℕ) (f : JournalText) (less : i < length files) (is : get_or files i f ≡ f) where
   next : journal_name x (drop i files)
-      ≡ (if is_wanted (OfHost x) (header_at f.bytes.items) then f.name.now else journal_name x (drop (i + 1) files))
+      ≡ (if is_wanted (OfHost x) (header_at f.text) then f.name else journal_name x (drop (i + 1) files))
   next = at_drop_more (journal_name x) files i f less
-      ∙ ap (λ (g : JournalFile). if is_wanted (OfHost x) (header_at g.bytes.items) then g.name.now
+      ∙ ap (λ (g : JournalText). if is_wanted (OfHost x) (header_at g.text) then g.name
       else journal_name x (drop (i + 1) files)) is
 
-  pub here : is_wanted (OfHost x) (header_at f.bytes.items) ≡ true → journal_name x (drop i files) ≡ f.name.now
-  here found = next ∙ ap (λ b. if b then f.name.now else journal_name x (drop (i + 1) files)) found
+  pub here : is_wanted (OfHost x) (header_at f.text) ≡ true → journal_name x (drop i files) ≡ f.name
+  here found = next ∙ ap (λ b. if b then f.name else journal_name x (drop (i + 1) files)) found
 
-  pub further : is_wanted (OfHost x) (header_at f.bytes.items) ≡ false
+  pub further : is_wanted (OfHost x) (header_at f.text) ≡ false
       → journal_name x (drop i files) ≡ journal_name x (drop (i + 1) files)
-  further other = next ∙ ap (λ b. if b then f.name.now else journal_name x (drop (i + 1) files)) other
+  further other = next ∙ ap (λ b. if b then f.name else journal_name x (drop (i + 1) files)) other
 
 -- no journal is that of a host
-pub nowhere : (x : ℕ) (files : List JournalFile) (i : ℕ) → length files ≤ i
+pub nowhere : (x : ℕ) (files : List JournalText) (i : ℕ) → length files ≤ i
     → journal_name x (drop i files) ≡ codes "no journal"
 nowhere x files i all = at_drop_all (journal_name x) files i all
 
 -- one host more
-module _ (files : List JournalFile) (places : ℕ → ℕ) where
+module _ (files : List JournalText) (places : ℕ → ℕ) where
   lines_push : (x : ℕ) (rs : List ℕ) (r : ℕ)
       → place_lines files places x (rs ++ r ∷ [])
       ≡ place_lines files places x rs ++ place_line files (x + length rs) (places (x + length rs)) r

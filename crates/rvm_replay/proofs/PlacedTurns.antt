@@ -12,10 +12,10 @@ use Rattle.rvm_core.specs.declared.event.Event.{Event}
 use Rattle.rvm_core.specs.declared.event.Event.TheVariants.{At, Deliver}
 use Rattle.rvm_recorder.specs.Entries.{PlainEntry}
 use Rattle.rvm_recorder.specs.History.{Recording}
-use Rattle.rvm_replay.specs.Audited.{AreReplayed, HasDone, IsHostBy, IsOnlyOne, journals_in}
+use Rattle.rvm_replay.specs.Audited.{AreReplayed, HasDone, IsHostBy, IsOnlyOne, is_wanted, journals_in}
 use Rattle.rvm_replay.specs.Counts.{turns_in}
 use Rattle.rvm_replay.specs.Turns.{EndWithTurn, IsPlaceOf, count_at, turn_at, turn_hosts, turns_of}
-use Rattle.rvm_replay.specs.declared.file.JournalFile.{JournalFile}
+use Rattle.rvm_replay.specs.Journals.{JournalText, header_number, headers_in}
 use Rattle.rvm_replay.specs.declared.headers.Wanted.TheVariants.{OfHost}
 use Rattle.rvm_replay.proofs.CountedTurns.{count_append, one_if}
 
@@ -140,11 +140,11 @@ not_none entries turn count ends none = some ends.before (sym ends.entries_are �
   some (y ∷ ys) is = cc
 
 -- a host that did something has a journal
-pub has_journal : (files : List JournalFile) (image : List ℕ) (all : List Recording) (x turn count : ℕ) (r : Recording)
+pub has_journal : (files : List JournalText) (image : List ℕ) (all : List Recording) (x turn count : ℕ) (r : Recording)
     → AreReplayed files image all → slice_get all x ≡ Some r → EndWithTurn r.journal.entries turn count
-    → IsOnlyOne files (OfHost x) None → ⊥
+    → IsOnlyOne (headers_in files) (OfHost x) None → ⊥
 has_journal files image all x turn count r are there ends none = by_journal (are.each x r there) where
-  by_found : (found : Option ℕ) → IsOnlyOne files (OfHost x) found → IsHostBy files image (length all) x found r → ⊥
+  by_found : (found : Option ℕ) → IsOnlyOne (headers_in files) (OfHost x) found → IsHostBy files image (length all) x found r → ⊥
   by_found None only done = not_none r.journal.entries turn count ends done.nothing
   by_found (Some k) only done = true≢false (sym only.1 ∙ none k only.0)
 
@@ -152,11 +152,12 @@ has_journal files image all x turn count r are there ends none = by_journal (are
   by_journal d = by_found d.found d.only d.done
 
 -- the place of a turn
-pub placed : (files : List JournalFile) (all : List Recording) (events : List Event) (turn x own count index : ℕ) (r : Recording)
+pub placed : (files : List JournalText) (all : List Recording) (events : List Event) (turn x own count index : ℕ) (r : Recording)
     → slice_get (turn_hosts events) (turn - 1) ≡ Some x → own ≡ count_at x (take turn (turn_hosts events))
-    → slice_get all x ≡ Some r → EndWithTurn r.journal.entries own count → IsOnlyOne files (OfHost x) (Some index)
+    → slice_get all x ≡ Some r → EndWithTurn r.journal.entries own count
+    → is_wanted (OfHost x) (header_number files index) ≡ true
     → IsPlaceOf files all events turn index count
-placed files all events turn x own count index r at own_is host_is there only = record {
+placed files all events turn x own count index r at own_is host_is there of_host = record {
   host = x;
   turn_is = record {
     own = own;
@@ -165,5 +166,5 @@ placed files all events turn x own count index r at own_is host_is there only = 
     host_is = host_is;
     there = there;
   };
-  only = only;
+  of_host = of_host;
 }

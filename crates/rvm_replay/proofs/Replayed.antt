@@ -1,30 +1,29 @@
 -- The host of a journal did again what the journal tells, or the journal was refused.
-use Rattle.std.proofs.Common.{◌≡◌, ◌⊎◌, ◌∙◌, ℕ, true, false, List, [], ◌++◌, Option, None, Some, inl, inr, length, refl, sym, ap, subst, arith}
+use Rattle.std.proofs.Common.{◌≡◌, ◌∙◌, ℕ, true, false, List, [], ◌++◌, Option, None, Some, inl, inr, length, refl, sym, ap, subst, arith}
 use Rattle.std.proofs.lemmas.Bool.Decides.{nat_tests}
-use Rattle.std.proofs.lemmas.Result.{IfOk-weaker}
 use Rattle.std.specs.Io.KnownBytes.{Appends}
-use Rattle.std.specs.Prelude.{Result, Ok, Err, IfErr, IfOk}
+use Rattle.std.specs.Prelude.{Err, IfErr, IfOk, Ok, Result}
 use Rattle.rvm_board.specs.Guest.{Guest}
-use Rattle.rvm_command.specs.Refusals.{IsTold, refused}
 use Rattle.rvm_host.specs.Hosts.{is_sized}
 use Rattle.rvm_journal.specs.declared.header.Header.{Header}
 use Rattle.rvm_journal.specs.Headers.{IsRanged, header_at}
 use Rattle.rvm_debug.specs.Words.{lines}
 use Rattle.rvm_journal.specs.declared.replay.JournalFault.{JournalFault}
+use Rattle.rvm_journal.specs.declared.replay.JournalFault.TheVariants as journal
+use Rattle.rvm_journal.specs.Reading.{IsReadFault, IsTextOf, Opened}
 use Rattle.rvm_journal.specs.Replaying.{AreFirstTold, IsJournalFault, IsReplayedTo}
+use Rattle.rvm_journal.specs.Whole.{IsJournal}
+use Rattle.rvm_journal.proofs.Reading.{has_journal}
 use Rattle.rvm_message.specs.declared.event.HostEvent.{HostEvent}
 use Rattle.rvm_recorder.specs.Entries.{PlainEntry}
 use Rattle.rvm_recorder.specs.History.{Recording, count_of}
 use Rattle.rvm_journal.specs.Recorders.{Records, events_in, room_of}
-use Rattle.rvm_replay.specs.Behind.{most_replayed}
 use Rattle.rvm_recorder.specs.Replay.{IsReplay as AreAnswers}
-use Rattle.rvm_refusal.specs.declared.refusal.Refusal.TheVariants.{LinkFault}
 use Rattle.rvm_replay.specs.declared.file.FileFault.{FileFault}
 use Rattle.rvm_replay.specs.declared.file.FileFault.TheVariants as fault
-use Rattle.rvm_replay.specs.Consoles.{console_of}
-use Rattle.rvm_replay.specs.FileFaults.{IsFileFault, IsGuestFault}
+use Rattle.rvm_replay.specs.FileFaults.{IsFileFault, IsGuestFault, IsOpenFault, IsUnread}
 use Rattle.rvm_replay.specs.Journals.{IsHostAfter, IsOpening}
-use Rattle.rvm_replay.specs.Replays.{HasAnswered, HasSessionStatus, IsAnswered, IsDone, IsNoSession, IsNotShown, IsReplay, IsShown, IsShownAgain, IsUnanswered, guest_after, no_guest_line}
+use Rattle.rvm_replay.specs.Replays.{IsDone, IsUnanswered, guest_after, no_guest_line}
 
 -- a host of each header has numbers within their limits
 sized : (h : Header) → IsRanged h → is_sized h.host h.hosts 4096 3 ≡ true
@@ -81,7 +80,7 @@ pub lines_fault : (why : JournalFault) (most : Option ℕ) (h : Header) (bytes i
 lines_fault why most h bytes image old empty bad =
     let none = ap length empty in
     let all : room_of old ≡ old.capacity = omega (arith, none) in
-    subst (IsJournalFault why most h.hosts h.host (lines bytes) old.capacity) all bad
+    inr (subst (IsJournalFault why most h.hosts h.host (lines bytes) old.capacity) all bad)
 
 -- the host of a journal did what is wanted, and its observer was shown what it answered
 pub is_done : {O : Type 0} (shows : O → List PlainEntry → Type 0) (most : Option ℕ) (journal image : List ℕ) (h : Header)
@@ -96,60 +95,73 @@ is_done shows most journal image h r guest count observer header_is host guest_i
   shown = shown;
 }
 
--- the header of the journal was read
-module _ (most : Option ℕ) (journal image : List ℕ) where
-  pub refused_if : {A : Type 0} (r : Result A FileFault) (h : Header) → Some h ≡ header_at journal
-      → IfErr r (λ why. IsFileFault why most most_replayed (Some h) journal image)
-      → IfErr r (λ why. IsFileFault why most most_replayed (header_at journal) journal image)
-  refused_if (Ok done) h is bad = tt
-  refused_if (Err why) h is bad = subst (λ header. IsFileFault why most most_replayed header journal image) is bad
+-- why the header of a journal could not be read is what is wrong with the journal
+pub open_fault : (why : FileFault) (most : Option ℕ) (capacity : ℕ) (known : Option (List ℕ)) (image : List ℕ)
+    → IsOpenFault why known
+    → (text : List ℕ) × IsJournal known text × IsFileFault why most capacity (header_at text) text image
+open_fault fault.NoHeader most capacity known image none = (none.0, none.1, none.2)
+open_fault (fault.Journal why) most capacity known image unread =
+    let any = has_journal known in (any.0, any.1, inl unread)
+open_fault (fault.SameHost letter) most capacity known image bad = absurd bad
+open_fault fault.SecondGuest most capacity known image bad = absurd bad
+open_fault fault.OtherHosts most capacity known image bad = absurd bad
+open_fault fault.OtherWorld most capacity known image bad = absurd bad
+open_fault (fault.OtherProcess letter) most capacity known image bad = absurd bad
+open_fault fault.MetOtherWorld most capacity known image bad = absurd bad
+open_fault fault.NoImage most capacity known image bad = absurd bad
+open_fault fault.OtherImage most capacity known image bad = absurd bad
+open_fault (fault.Image why) most capacity known image bad = absurd bad
 
-  module _ {F : Type 0} (r : Result ℕ F) (recording : Recording) (replay : IsReplay most journal image recording)
-      (name : List ℕ) (before after errors_before errors_after : Option (List ℕ)) where
-    pub shown_if : (bytes : List ℕ) (count : ℕ) → bytes ≡ console_of recording.journal.entries → count ≡ count_of recording
-        → IfOk r (λ s. s ≡ 0 → IsShown bytes count before after errors_before errors_after)
-        → IfOk r (λ s. s ≡ 0 → IsShownAgain most journal image before after errors_before errors_after)
-    shown_if bytes count bytes_are count_is =
-        IfOk-weaker r (λ s. s ≡ 0 → IsShown bytes count before after errors_before errors_after)
-        (λ s. s ≡ 0 → IsShownAgain most journal image before after errors_before errors_after)
-        (λ s shown is. record {
-          recording = recording;
-          replay = replay;
-          shown = subst (λ b. IsShown b (count_of recording) before after errors_before errors_after) bytes_are
-              (subst (λ n. IsShown bytes n before after errors_before errors_after) count_is (shown is));
-        })
+pub unread : (why : JournalFault) (known : Option (List ℕ)) (number : ℕ) → IsReadFault known number why → IsUnread why
+unread (journal.BadLine k) known number is = absurd is
+unread (journal.LongLine k) known number is = tt
+unread (journal.TooLong m) known number is = absurd is
+unread journal.OutOfMemory known number is = tt
+unread journal.LinkFault known number is = tt
 
-    pub unwritten_if : IfOk r (λ s. s ≡ 1 → IsTold (refused LinkFault) errors_before errors_after)
-        → IfOk r (λ s. s ≡ 1 → IsNotShown name most journal image before after errors_before errors_after)
-    unwritten_if = IfOk-weaker r (λ s. s ≡ 1 → IsTold (refused LinkFault) errors_before errors_after)
-        (λ s. s ≡ 1 → IsNotShown name most journal image before after errors_before errors_after)
-        (λ s told is. inr (record { recording = recording; replay = replay; reported = told is }))
+-- a text of a journal of which the header was read is one of what was known
+pub text_known : (o : Opened) (known : Option (List ℕ)) (text : List ℕ) → o.known ≡ known → IsTextOf o text → IsJournal known text
+text_known o known text is text_is = subst (λ k. IsJournal k text) is text_is.whole
 
-    module _ (session : Option (List ℕ)) (guest : Option Guest) (guest_is : guest ≡ guest_after recording) where
-      pub answered_if : IfOk r (λ s. s ≡ 0 → IsAnswered guest session before after)
-          → IfOk r (λ s. s ≡ 0 → HasAnswered most journal image session before after)
-      answered_if = IfOk-weaker r (λ s. s ≡ 0 → IsAnswered guest session before after)
-          (λ s. s ≡ 0 → HasAnswered most journal image session before after)
-          (λ s answered is. record {
-            recording = recording;
-            replay = replay;
-            answered = subst (λ g. IsAnswered g session before after) guest_is (answered is);
-          })
+-- what is wrong with it is wrong with that text
+pub text_fault : (o : Opened) (known : Option (List ℕ)) (why : FileFault) (most : Option ℕ) (capacity : ℕ) (image : List ℕ)
+    → o.known ≡ known → (text : List ℕ) × IsTextOf o text × IsFileFault why most capacity (Some o.header) text image
+    → (text : List ℕ) × IsJournal known text × IsFileFault why most capacity (header_at text) text image
+text_fault o known why most capacity image is (text, text_is, bad) = (
+  text,
+  text_known o known text is text_is,
+  subst (λ h. IsFileFault why most capacity h text image) (sym text_is.header_is) bad,
+)
 
-      pub unanswered_if : (count : ℕ) → count ≡ count_of recording
-          → IfOk r (λ s. s ≡ 1 → IsUnanswered name guest count session before after errors_before errors_after)
-          → IfOk r (λ s. s ≡ 1 → IsNoSession name most journal image session before after errors_before errors_after)
-      unanswered_if count count_is = IfOk-weaker r
-          (λ s. s ≡ 1 → IsUnanswered name guest count session before after errors_before errors_after)
-          (λ s. s ≡ 1 → IsNoSession name most journal image session before after errors_before errors_after)
-          (λ s unanswered is. inr (record {
-            recording = recording;
-            replay = replay;
-            unanswered = subst (λ g. IsUnanswered name g (count_of recording) session before after errors_before errors_after)
-                guest_is
-                (subst (λ n. IsUnanswered name guest n session before after errors_before errors_after) count_is
-                (unanswered is));
-          }))
+-- the host of a journal did what is wanted of a text of it, and its observer was shown what it answered
+pub done_of : {D O : Type 0} (shows : O → List PlainEntry → Type 0) (guest : D → Option Guest) (count : D → ℕ) (observer : D → O)
+    (r : Result D FileFault) (most known : Option _) (text image : List ℕ) (o : Opened) (recording : Recording) → o.known ≡ known
+    → IsTextOf o text → IsHostAfter most o.header text image recording
+    → IfOk r (λ d. guest d ≡ guest_after recording) → IfOk r (λ d. count d ≡ count_of recording)
+    → IfOk r (λ d. shows (observer d) recording.journal.entries)
+    → IfOk r (λ d. (text : List ℕ) × IsJournal known text
+    × IsDone shows most text image (guest d) (count d) (observer d))
+done_of shows guest count observer (Ok d) most known text image o recording is text_is host guest_is count_is shown = (
+  text,
+  text_known o known text is text_is,
+  is_done shows most text image o.header recording (guest d) (count d) (observer d) (sym text_is.header_is) host guest_is count_is shown,
+)
+done_of shows guest count observer (Err e) most known text image o recording is text_is host guest_is count_is shown = tt
+
+-- memory ran out
+pub no_memory : {D : Type 0} (r : Result D FileFault) (known most : Option _) (capacity : ℕ) (image : List ℕ)
+    → IfErr r (λ why. why ≡ fault.Journal journal.OutOfMemory)
+    → IfErr r (λ why. (text : List ℕ) × IsJournal known text × IsFileFault why most capacity (header_at text) text image)
+no_memory (Ok d) known most capacity image is = tt
+no_memory (Err e) known most capacity image is =
+    let any = has_journal known in
+    (any.0, any.1, subst (λ why. IsFileFault why most capacity (header_at any.0) any.0 image) (sym is) (inl tt))
+
+-- what is wrong with any text is wrong with the one that there is
+pub with_its_text : (o : Opened) (why : FileFault) (most : Option ℕ) (capacity : ℕ) (image : List ℕ)
+    → (text : List ℕ) × IsTextOf o text → ((bytes : List ℕ) → IsFileFault why most capacity (Some o.header) bytes image)
+    → (text : List ℕ) × IsTextOf o text × IsFileFault why most capacity (Some o.header) text image
+with_its_text o why most capacity image (text, is) bad = (text, is, bad text)
 
 -- no guest is at a host, which was reported
 pub nobody_here : (name : List ℕ) (guest : Option Guest) (n count : ℕ) (session same errors_before errors_after : Option (List ℕ))
@@ -158,27 +170,3 @@ pub nobody_here : (name : List ℕ) (guest : Option Guest) (n count : ℕ) (sess
 nobody_here name None n count session same errors_before errors_after none is reported =
     (refl, subst (λ k. Appends errors_before errors_after (no_guest_line name k)) is reported)
 nobody_here name (Some g) n count session same errors_before errors_after none is reported = cc
-
--- by its status, how a session was answered
-pub session_status : (s : ℕ) (name : List ℕ) (most : Option ℕ) (journal image : List ℕ)
-    (session before after errors_before errors_after : Option (List ℕ)) → (s ≡ 0) ⊎ (s ≡ 1)
-    → (s ≡ 0 → HasAnswered most journal image session before after) → (s ≡ 0 → errors_after ≡ errors_before)
-    → (s ≡ 1 → IsNoSession name most journal image session before after errors_before errors_after)
-    → HasSessionStatus s name most journal image session before after errors_before errors_after
-session_status s name most journal image session before after errors_before errors_after status answered silent refused_is =
-    elim status [
-      | inl none ↦ subst (λ n. HasSessionStatus n name most journal image session before after errors_before errors_after)
-          (sym none) (answered none, silent none)
-      | inr one ↦ subst (λ n. HasSessionStatus n name most journal image session before after errors_before errors_after)
-          (sym one) (refused_is one)
-    ]
-
-pub session_status_of : {F : Type 0} (r : Result ℕ F) (name : List ℕ) (most : Option ℕ) (journal image : List ℕ)
-    (session before after errors_before errors_after : Option (List ℕ)) → IfOk r (λ s. (s ≡ 0) ⊎ (s ≡ 1))
-    → IfOk r (λ s. s ≡ 0 → HasAnswered most journal image session before after)
-    → IfOk r (λ s. s ≡ 0 → errors_after ≡ errors_before)
-    → IfOk r (λ s. s ≡ 1 → IsNoSession name most journal image session before after errors_before errors_after)
-    → IfOk r (λ s. HasSessionStatus s name most journal image session before after errors_before errors_after)
-session_status_of (Ok s) name most journal image session before after errors_before errors_after status answered silent refused_is =
-    session_status s name most journal image session before after errors_before errors_after status answered silent refused_is
-session_status_of (Err e) name most journal image session before after errors_before errors_after status answered silent refused_is = tt

@@ -1,11 +1,13 @@
 -- How a replay up to a turn ends.
 use Rattle.std.proofs.Common.{◌≡◌, ◌<◌, ℕ, zero, suc, List, [], ◌++◌, Option, Some, Result, Ok, Err, codes, inl, inr, length, refl, subst, sym}
+use Rattle.std.specs.Borrow.{Bor}
 use Rattle.std.specs.Io.KnownBytes.{Appends}
 use Rattle.std.specs.Prelude.{IfOk, OnErr, slice_get}
 use Rattle.rvm_audit.specs.Rule.{IsMerge}
 use Rattle.rvm_command.specs.Command.{refused_text}
 use Rattle.rvm_command.specs.Refusals.{IsTold, refused}
 use Rattle.rvm_core.specs.declared.event.Event.{Event}
+use Rattle.rvm_journal.specs.Whole.{IsJournal}
 use Rattle.rvm_recorder.specs.History.{Recording}
 use Rattle.rvm_refusal.specs.declared.refusal.Refusal.TheVariants.{OutOfMemory}
 use Rattle.rvm_replay.specs.Audited.{AreReplayed, journals_in}
@@ -13,22 +15,23 @@ use Rattle.rvm_replay.specs.Findings.{HasNoOrder, IsFaultTold, IsUntoldNoOrder}
 use Rattle.rvm_replay.specs.Replays.{HasSessionStatus, IsUntold}
 use Rattle.rvm_replay.specs.Turns.{HasPlace, HasTurnStatus, IsNoTurn, IsTurnSession, IsUntoldLook, IsUntoldSession, IsUntoldTurn, few_turns_line, turn_hosts}
 use Rattle.rvm_replay.specs.Unaudited.{IsJournalsFault}
-use Rattle.rvm_replay.specs.declared.file.JournalFile.{JournalFile}
+use Rattle.rvm_replay.specs.Journals.{AreTexts, JournalText, names_in, plain_names}
 use Rattle.rvm_replay.specs.declared.file.JournalsFault.{JournalsFault}
 use Rattle.rvm_replay.proofs.AuditEnds.{told_of}
+use Rattle.rvm_replay.proofs.Worlds.{named_same}
 
 -- the journals are not audited
-module _ (files : List JournalFile) (image : List ℕ) (turn : ℕ) (fault : JournalsFault) (reason : IsJournalsFault 4294967295 files image fault)
+module _ (files : List JournalText) (image : List ℕ) (turn : ℕ) (fault : JournalsFault) (reason : IsJournalsFault 4294967295 files image fault)
   where
-    pub not_audited : (out errors errors' : Option (List ℕ)) → IsFaultTold files fault errors errors'
+    pub not_audited : (out errors errors' : Option (List ℕ)) → IsFaultTold (names_in files) fault errors errors'
         → IsNoTurn 1 files image turn out out errors errors'
     not_audited out errors errors' told = inl (record { fault = fault; reason = reason; told = told; same = refl })
 
     pub not_audited_untold : IsUntoldLook files image turn
-    not_audited_untold out = let told = told_of files fault in (1, told.0, not_audited out (Some []) (Some told.0) told.1)
+    not_audited_untold out = let told = told_of (names_in files) fault in (1, told.0, not_audited out (Some []) (Some told.0) told.1)
 
 -- the hosts of a world did what their journals tell
-module _ (files : List JournalFile) (image : List ℕ) (all : List Recording) (are : AreReplayed files image all) (turn : ℕ) where
+module _ (files : List JournalText) (image : List ℕ) (all : List Recording) (are : AreReplayed files image all) (turn : ℕ) where
   -- but that has no order
   no_order : (status : ℕ) (out errors errors' : Option (List ℕ)) → HasNoOrder status files all errors errors'
       → IsNoTurn status files image turn out out errors errors'
@@ -79,10 +82,10 @@ module _ (files : List JournalFile) (image : List ℕ) (all : List Recording) (a
         let report = few_turns_line count in (1, report, few_turns out (Some []) (Some report) refl)
 
 -- a session was answered for the guest after a turn
-module _ (files : List JournalFile) (image : List ℕ) (turn index count : ℕ) (file : JournalFile) (place : HasPlace files image turn index count)
+module _ (files : List JournalText) (image : List ℕ) (turn index count : ℕ) (file : JournalText) (place : HasPlace files image turn index count)
     (file_is : slice_get files index ≡ Some file) (session out out' : Option (List ℕ)) where
   answered : (status : ℕ) (errors errors' : Option (List ℕ))
-      → HasSessionStatus status file.name.now (Some count) file.bytes.items image session out out' errors errors'
+      → HasSessionStatus status file.name (Some count) file.text image session out out' errors errors'
       → IsTurnSession files image turn status session out out' errors errors'
   answered status errors errors' ended = record {
     index = index;
@@ -93,22 +96,34 @@ module _ (files : List JournalFile) (image : List ℕ) (turn index count : ℕ) 
     ended = ended;
   }
 
-  pub session_answered : {F : Type 0} (r : Result ℕ F) (errors errors' : Option (List ℕ))
-      → IfOk r (λ s. HasSessionStatus s file.name.now (Some count) file.bytes.items image session out out' errors errors')
-      → IfOk r (λ s. IsTurnSession files image turn s session out out' errors errors')
-  session_answered (Ok s) errors errors' ended = answered s errors errors' ended
-  session_answered (Err e) errors errors' ended = tt
+  -- by a text of its bytes, which is the file's
+  module _ (name bytes : List ℕ) (more : ℕ) (name_is : file.name ≡ name) (count_is : more ≡ count)
+      (same : (text : List ℕ) → IsJournal (Some bytes) text → text ≡ file.text) where
+    so : (status : ℕ) (text : List ℕ) (errors errors' : Option (List ℕ)) → IsJournal (Some bytes) text
+        → HasSessionStatus status name (Some more) text image session out out' errors errors'
+        → HasSessionStatus status file.name (Some count) file.text image session out out' errors errors'
+    so status text errors errors' is ended =
+        subst (λ n. HasSessionStatus status n (Some count) file.text image session out out' errors errors') (sym name_is)
+        (subst (λ n. HasSessionStatus status name (Some n) file.text image session out out' errors errors') count_is
+        (subst (λ t. HasSessionStatus status name (Some more) t image session out out' errors errors') (same text is) ended))
 
-  pub session_unanswered : {F : Type 0} (r : Result ℕ F)
-      → OnErr r (IsUntold (λ status before after.
-      HasSessionStatus status file.name.now (Some count) file.bytes.items image session out out' before after))
-      → OnErr r (IsUntoldSession files image turn session out out')
-  session_unanswered (Ok s) untold = tt
-  session_unanswered (Err e) (status, report, ended) =
-      (status, report, answered status (Some []) (Some report) ended)
+    pub session_answered : {F : Type 0} (r : Result ℕ F) (errors errors' : Option (List ℕ))
+        → IfOk r (λ s. (text : List ℕ) × IsJournal (Some bytes) text
+        × HasSessionStatus s name (Some more) text image session out out' errors errors')
+        → IfOk r (λ s. IsTurnSession files image turn s session out out' errors errors')
+    session_answered (Ok s) errors errors' (text, is, ended) = answered s errors errors' (so s text errors errors' is ended)
+    session_answered (Err e) errors errors' ended = tt
+
+    pub session_unanswered : {F : Type 0} (r : Result ℕ F)
+        → OnErr r ((text : List ℕ) × IsJournal (Some bytes) text × IsUntold (λ status before after.
+        HasSessionStatus status name (Some more) text image session out out' before after))
+        → OnErr r (IsUntoldSession files image turn session out out')
+    session_unanswered (Ok s) untold = tt
+    session_unanswered (Err e) (text, is, untold) =
+        (untold.0, untold.1, answered untold.0 (Some []) (Some untold.1) (so untold.0 text (Some []) (Some untold.1) is untold.2))
 
 -- with a session, or without one
-module _ (files : List JournalFile) (image : List ℕ) (turn : ℕ) (session out out' : Option (List ℕ)) where
+module _ (files : List JournalText) (image : List ℕ) (turn : ℕ) (session out out' : Option (List ℕ)) where
   pub with_session : {F : Type 0} (r : Result ℕ F) (errors errors' : Option (List ℕ))
       → IfOk r (λ s. IsTurnSession files image turn s session out out' errors errors')
       → IfOk r (λ s. HasTurnStatus s files image turn session out out' errors errors')
@@ -120,7 +135,42 @@ module _ (files : List JournalFile) (image : List ℕ) (turn : ℕ) (session out
   with_session_untold (Ok s) untold = tt
   with_session_untold (Err e) (status, report, ended) = (status, report, inl ended)
 
-pub without_session : (files : List JournalFile) (image : List ℕ) (turn : ℕ) (session out : Option (List ℕ))
+pub without_session : (files : List JournalText) (image : List ℕ) (turn : ℕ) (session out : Option (List ℕ))
     → IsUntoldLook files image turn → IsUntoldTurn files image turn session out out
 without_session files image turn session out untold =
     let here = untold out in (here.0, here.1, inr here.2)
+
+-- so a replay ended for texts of journals
+module _ (names : List (Bor (List ℕ))) (known : List (Option (List ℕ))) (image : List ℕ) (turn : ℕ)
+    (session out out' : Option (List ℕ)) where
+  pub texts_ended : {F : Type 0} (r : Result ℕ F) (files : List JournalText) (errors errors' : Option (List ℕ))
+      → AreTexts names known files → IfOk r (λ s. HasTurnStatus s files image turn session out out' errors errors')
+      → IfOk r (λ s. (files : List JournalText) × AreTexts names known files
+      × HasTurnStatus s files image turn session out out' errors errors')
+  texts_ended (Ok s) files errors errors' are ended = (files, are, ended)
+  texts_ended (Err e) files errors errors' are ended = tt
+
+  pub texts_unended : {F : Type 0} (r : Result ℕ F) (files : List JournalText) → AreTexts names known files
+      → OnErr r (IsUntoldTurn files image turn session out out')
+      → OnErr r ((files : List JournalText) × AreTexts names known files × IsUntoldTurn files image turn session out out')
+  texts_unended (Ok s) files are untold = tt
+  texts_unended (Err e) files are untold = (files, are, untold)
+
+-- journals that are not audited
+module _ (names : List (Bor (List ℕ))) (known : List (Option (List ℕ))) (image : List ℕ) (turn : ℕ) (session out : Option (List ℕ))
+    (fault : JournalsFault)
+    (reason : (files : List JournalText) × AreTexts names known files × IsJournalsFault 4294967295 files image fault) where
+  pub texts_refused : (errors errors' : Option (List ℕ)) → IsFaultTold (plain_names names) fault errors errors'
+      → (files : List JournalText) × AreTexts names known files
+      × HasTurnStatus 1 files image turn session out out errors errors'
+  texts_refused errors errors' told = (
+    reason.0,
+    reason.1,
+    inr (not_audited reason.0 image turn fault reason.2 out errors errors'
+        (subst (λ ns. IsFaultTold ns fault errors errors') (named_same names known reason.0 reason.1) told)),
+  )
+
+  pub texts_refused_untold : (files : List JournalText) × AreTexts names known files
+      × IsUntoldTurn files image turn session out out
+  texts_refused_untold =
+      (reason.0, reason.1, without_session reason.0 image turn session out (not_audited_untold reason.0 image turn fault reason.2))

@@ -1,19 +1,20 @@
 -- What a replay reports, where it is not known how much of that was written.
 use Rattle.std.proofs.Common.{◌≡◌, ℕ, zero, suc, List, [], ◌++◌, Option, Some, None, codes, refl, subst, inl, inr}
 use Rattle.std.specs.Io.KnownBytes.{Appends}
-use Rattle.std.specs.Prelude.{Result, Ok, Err, OnErr}
+use Rattle.std.specs.Prelude.{IfOk, Result, Ok, Err, OnErr}
 use Rattle.rvm_board.specs.Guest.{Guest}
 use Rattle.rvm_command.specs.Command.{refused_text}
 use Rattle.rvm_command.specs.Ends.{IsExtendedEndOf}
 use Rattle.rvm_command.specs.Refusals.{refused, refused_of_script}
 use Rattle.rvm_debug.specs.declared.script.ScriptError.{ScriptError}
 use Rattle.rvm_journal.specs.Headers.{header_at}
+use Rattle.rvm_journal.specs.Whole.{IsJournal}
 use Rattle.rvm_recorder.specs.History.{Recording, count_of}
 use Rattle.rvm_replay.specs.Behind.{most_replayed}
 use Rattle.rvm_refusal.specs.declared.refusal.Refusal.TheVariants.{LinkFault}
 use Rattle.rvm_replay.specs.Consoles.{console_of}
 use Rattle.rvm_replay.specs.FileFaults.{IsFileFault, fault_line}
-use Rattle.rvm_replay.specs.Replays.{HasAnswerStatus, HasReplayStatus, HasSessionStatus, HasShownStatus, IsReplay, IsSessionRefused, IsUntold, guest_after, no_guest_line, replayed_line}
+use Rattle.rvm_replay.specs.Replays.{HasAnswerStatus, HasReplayStatus, HasSessionStatus, HasShownStatus, IsReplay, IsUntold, guest_after, no_guest_line, replayed_line}
 use Rattle.rvm_replay.specs.declared.file.FileFault.{FileFault}
 
 -- whatever is returned, a failure is told so
@@ -31,28 +32,20 @@ module _ (bytes : List ℕ) (count : ℕ) (out out' : Option (List ℕ)) where
   unwritten_untold = (1, refused_text (refused LinkFault) ++ codes "\n", refl)
 
 -- a session was refused for a guest
-pub refused_untold : (guest : Guest) (session out out' : Option (List ℕ)) (why : ScriptError)
+pub refused_untold : (name : List ℕ) (n : ℕ) (guest : Guest) (session out out' : Option (List ℕ)) (why : ScriptError)
     → IsExtendedEndOf session guest (Err why) out out'
-    → IsUntold (λ status before after. (status ≡ 1) × IsSessionRefused guest session out out' before after)
-refused_untold guest session out out' why ended =
-    (1, refused_text (refused_of_script why) ++ codes "\n", (refl, record { why = why; ended = ended; reported = refl }))
+    → IsUntold (λ status before after. HasAnswerStatus status name (Some guest) n session out out' before after)
+refused_untold name n guest session out out' why ended =
+    (1, refused_text (refused_of_script why) ++ codes "\n", record { why = why; ended = ended; reported = refl })
 
--- a session with the guest that is at a host, or none is there
-module _ (name : List ℕ) (n : ℕ) (session out out' : Option (List ℕ)) where
-  pub answers_untold : {F : Type 0} (r : Result ℕ F) (here : Option Guest) (guest : Guest) → Some guest ≡ here
-      → OnErr r (IsUntold (λ status before after. (status ≡ 1) × IsSessionRefused guest session out out' before after))
-      → OnErr r (IsUntold (λ status before after. HasAnswerStatus status name here n session out out' before after))
-  answers_untold (Ok s) here guest is untold = tt
-  answers_untold (Err e) here guest is (status, report, (one, refused_is)) =
-      (1, report, subst (λ g. HasAnswerStatus 1 name g n session out out' (Some []) (Some report)) is refused_is)
-
-  pub nobody_untold : (here : Option Guest) → None ≡ here → out' ≡ out
-      → IsUntold (λ status before after. HasAnswerStatus status name here n session out out' before after)
-  nobody_untold here is same = (
-    1,
-    no_guest_line name n,
-    subst (λ g. HasAnswerStatus 1 name g n session out out' (Some []) (Some (no_guest_line name n))) is (same, refl),
-  )
+-- none is there
+pub nobody_untold : (name : List ℕ) (n : ℕ) (session out out' : Option (List ℕ)) (here : Option Guest) → None ≡ here → out' ≡ out
+    → IsUntold (λ status before after. HasAnswerStatus status name here n session out out' before after)
+nobody_untold name n session out out' here is same = (
+  1,
+  no_guest_line name n,
+  subst (λ g. HasAnswerStatus 1 name g n session out out' (Some []) (Some (no_guest_line name n))) is (same, refl),
+)
 
 module _ (name : List ℕ) (most : Option ℕ) (journal image : List ℕ) (out out' : Option (List ℕ)) where
   -- a journal was refused
@@ -73,6 +66,16 @@ module _ (name : List ℕ) (most : Option ℕ) (journal image : List ℕ) (out o
     shown_again (suc zero) before after told =
         inr (record { recording = recording; replay = replay; reported = told })
     shown_again (suc (suc n)) before after none = absurd none
+
+    pub replays_ended : {F : Type 0} (r : Result ℕ F) (bytes : List ℕ) (count : ℕ) (before after : Option (List ℕ))
+        → bytes ≡ console_of recording.journal.entries → count ≡ count_of recording
+        → IfOk r (λ status. HasShownStatus status bytes count out out' before after)
+        → IfOk r (λ status. HasReplayStatus status name most journal image out out' before after)
+    replays_ended (Ok s) bytes count before after bytes_are count_is ended =
+        shown_again s before after
+        (subst (λ b. HasShownStatus s b (count_of recording) out out' before after) bytes_are
+        (subst (λ n. HasShownStatus s bytes n out out' before after) count_is ended))
+    replays_ended (Err e) bytes count before after bytes_are count_is ended = tt
 
     pub replays_untold : {F : Type 0} (r : Result ℕ F) (bytes : List ℕ) (count : ℕ)
         → bytes ≡ console_of recording.journal.entries → count ≡ count_of recording
@@ -96,6 +99,16 @@ module _ (name : List ℕ) (most : Option ℕ) (journal image : List ℕ) (out o
         inr (record { recording = recording; replay = replay; unanswered = unanswered })
     answered_again session (suc (suc n)) before after none = absurd none
 
+    pub sessions_ended : {F : Type 0} (r : Result ℕ F) (session : Option (List ℕ)) (guest : Option Guest) (count : ℕ)
+        (before after : Option (List ℕ)) → guest ≡ guest_after recording → count ≡ count_of recording
+        → IfOk r (λ status. HasAnswerStatus status name guest count session out out' before after)
+        → IfOk r (λ status. HasSessionStatus status name most journal image session out out' before after)
+    sessions_ended (Ok s) session guest count before after guest_is count_is ended =
+        answered_again session s before after
+        (subst (λ g. HasAnswerStatus s name g (count_of recording) session out out' before after) guest_is
+        (subst (λ n. HasAnswerStatus s name guest n session out out' before after) count_is ended))
+    sessions_ended (Err e) session guest count before after guest_is count_is ended = tt
+
     pub sessions_untold : {F : Type 0} (r : Result ℕ F) (session : Option (List ℕ)) (guest : Option Guest) (count : ℕ)
         → guest ≡ guest_after recording → count ≡ count_of recording
         → OnErr r (IsUntold (λ status before after. HasAnswerStatus status name guest count session out out' before after))
@@ -109,3 +122,15 @@ module _ (name : List ℕ) (most : Option ℕ) (journal image : List ℕ) (out o
           (subst (λ g. HasAnswerStatus status name g (count_of recording) session out out' (Some []) (Some report)) guest_is
           (subst (λ n. HasAnswerStatus status name guest n session out out' (Some []) (Some report)) count_is ended)),
     )
+
+-- so it ended for a text of a journal
+module _ (known : Option (List ℕ)) where
+  pub with_text : {F : Type 0} (r : Result ℕ F) (P : List ℕ → ℕ → Type 0) (text : List ℕ) → IsJournal known text → IfOk r (P text)
+      → IfOk r (λ s. (text : List ℕ) × IsJournal known text × P text s)
+  with_text (Ok s) P text is ended = (text, is, ended)
+  with_text (Err e) P text is ended = tt
+
+  pub with_text_untold : {F : Type 0} (r : Result ℕ F) (P : List ℕ → Type 0) (text : List ℕ) → IsJournal known text → OnErr r (P text)
+      → OnErr r ((text : List ℕ) × IsJournal known text × P text)
+  with_text_untold (Ok s) P text is untold = tt
+  with_text_untold (Err e) P text is untold = (text, is, untold)

@@ -15,12 +15,11 @@ use Rattle.rvm_core.specs.EventLines.{event_lines}
 use Rattle.rvm_journal.specs.declared.header.Header.{Header}
 use Rattle.rvm_replay.specs.declared.audit.AuditText.{AuditText}
 use Rattle.rvm_replay.specs.declared.audit.AuditText.TheVariants.{Chart, Order, Summary}
-use Rattle.rvm_replay.specs.declared.file.JournalFile.{JournalFile}
 use Rattle.rvm_replay.specs.declared.headers.Wanted.{Wanted}
 use Rattle.rvm_replay.specs.declared.headers.Wanted.TheVariants.{OfHost, WithGuest}
 use Rattle.rvm_replay.specs.Charts.{chart_of}
 use Rattle.rvm_replay.specs.Counts.{summary_of}
-use Rattle.rvm_replay.specs.Journals.{IsGuestNamed, IsHostOf, header_number}
+use Rattle.rvm_replay.specs.Journals.{Headers, IsGuestNamed, IsHostOf, JournalText, header_number, headers_in}
 use Rattle.rvm_replay.specs.Meetings.{HaveMet}
 
 -- whether a journal is wanted, by its header: the one whose host began with a guest, or that of a host
@@ -34,31 +33,41 @@ abbrev pub IsOnly : (has : ℕ → Bool) → (n : ℕ) → Option ℕ → Type 0
 IsOnly has n None = (i : ℕ) → i < n → has i ≡ false
 IsOnly has n (Some k) = (k < n) × (has k ≡ true) × ((i : ℕ) → i < n → has i ≡ true → i ≡ k)
 
--- the index of the one journal that is wanted, or none if no journal is
-abbrev pub IsOnlyOne : List JournalFile → Wanted → Option ℕ → Type 0
-IsOnlyOne files w found = IsOnly (λ i. is_wanted w (header_number files i)) (length files) found
+-- the index of the one header that is wanted, or none if no header is
+abbrev pub IsOnlyOne : Headers → Wanted → Option ℕ → Type 0
+IsOnlyOne hs w found = IsOnly (λ i. is_wanted w (hs.at i)) hs.count found
 
--- the header of the journal with this index tells this number of hosts; and this number of the world, or 0, as each host
--- tells that began without a guest
-pub record HasHeaderOf (files : List JournalFile) (hosts world index : ℕ) : Type 0 where
+-- no two headers are of one host
+abbrev pub AreOnce : Headers → (n : ℕ) → Type 0
+AreOnce hs n = (x : ℕ) → x < n → (found : Option ℕ) × IsOnlyOne hs (OfHost x) found
+
+-- the header with this index tells this number of hosts, of which its own is one; and this number of the world, or 0, as each
+-- host tells that began without a guest
+pub record HasHeaderOf (hs : Headers) (hosts world index : ℕ) : Type 0 where
   pub header : Header
-  pub header_is : header_number files index ≡ Some header
+  pub header_is : hs.at index ≡ Some header
   pub hosts_are : header.hosts ≡ hosts
+  pub there : header.host < hosts
   pub world_is : (header.world ≡ 0) ⊎ (header.world ≡ world)
 
--- the headers of the first n journals tell so
-abbrev pub HaveHeadersOf : List JournalFile → (n hosts world : ℕ) → Type 0
-HaveHeadersOf files n hosts world = (index : ℕ) → index < n → HasHeaderOf files hosts world index
+-- the first n headers tell so
+abbrev pub HaveHeadersOf : Headers → (n hosts world : ℕ) → Type 0
+HaveHeadersOf hs n hosts world = (index : ℕ) → index < n → HasHeaderOf hs hosts world index
 
--- the journals are those of hosts of one world, which has this many: one of them, and no other, is of a host that began
--- with a guest, the headers of all agree with its header, and the hosts that they tell to have been met are these
-pub record AreOfWorld (files : List JournalFile) (hosts : ℕ) : Type 0 where
+-- the headers are those of hosts of one world, which has this many: one of them, and no other, is of a host that began with
+-- a guest, and it is this one; the others agree with it; and no two are of one host
+pub record AreOfOneWorld (hs : Headers) (hosts : ℕ) (opening : Header) : Type 0 where
   pub first : ℕ
+  pub one_guest : IsOnlyOne hs WithGuest (Some first)
+  pub opening_is : hs.at first ≡ Some opening
+  pub headers : HaveHeadersOf hs hs.count hosts opening.world
+  pub once : AreOnce hs 8
+
+-- the journals are those of hosts of one world, which has this many: so their headers tell, and the hosts that they tell to
+-- have been met are these
+pub record AreOfWorld (files : List JournalText) (hosts : ℕ) : Type 0 where
   pub opening : Header
-  pub one_guest : IsOnlyOne files WithGuest (Some first)
-  pub opening_is : header_number files first ≡ Some opening
-  pub there : opening.host < hosts
-  pub headers : HaveHeadersOf files (length files) hosts opening.world
+  pub one_world : AreOfOneWorld (headers_in files) hosts opening
   pub met : HaveMet files (length files) opening.world
 
 -- a host that has no journal began without a guest, and did nothing
@@ -67,30 +76,30 @@ pub record IsIdle (hosts host : ℕ) (r : Recording) : Type 0 where
   pub nothing : r.journal.entries ≡ []
 
 -- a host began as the header of the journal with this index says, and did what that journal tells
-pub record IsHostAt (files : List JournalFile) (image : List ℕ) (index : ℕ) (r : Recording) : Type 0 where
+pub record IsHostAt (files : List JournalText) (image : List ℕ) (index : ℕ) (r : Recording) : Type 0 where
   pub header : Header
-  pub file : JournalFile
+  pub file : JournalText
   pub header_is : header_number files index ≡ Some header
   pub file_is : slice_get files index ≡ Some file
-  pub host : IsHostOf header file.bytes.items image r
+  pub host : IsHostOf header file.text image r
 
 -- a host did what its journal tells, which has this index; or it has none, and did nothing
-abbrev pub IsHostBy : List JournalFile → (image : List ℕ) → (hosts host : ℕ) → Option ℕ → Recording → Type 0
+abbrev pub IsHostBy : List JournalText → (image : List ℕ) → (hosts host : ℕ) → Option ℕ → Recording → Type 0
 IsHostBy files image n x None r = IsIdle n x r
 IsHostBy files image n x (Some index) r = IsHostAt files image index r
 
 -- a host did what the one journal of it tells, or has none, and did nothing
-pub record HasDone (files : List JournalFile) (image : List ℕ) (hosts host : ℕ) (r : Recording) : Type 0 where
+pub record HasDone (files : List JournalText) (image : List ℕ) (hosts host : ℕ) (r : Recording) : Type 0 where
   pub found : Option ℕ
-  pub only : IsOnlyOne files (OfHost host) found
+  pub only : IsOnlyOne (headers_in files) (OfHost host) found
   pub done : IsHostBy files image hosts host found r
 
 -- each of these hosts, by number, did what its journal tells
-abbrev pub AllDone : List JournalFile → (image : List ℕ) → (hosts : ℕ) → List Recording → Type 0
+abbrev pub AllDone : List JournalText → (image : List ℕ) → (hosts : ℕ) → List Recording → Type 0
 AllDone files image n all = (x : ℕ) (r : Recording) → slice_get all x ≡ Some r → HasDone files image n x r
 
 -- these are all hosts of a world, and each did what its journal tells
-pub record AreReplayed (files : List JournalFile) (image : List ℕ) (all : List Recording) : Type 0 where
+pub record AreReplayed (files : List JournalText) (image : List ℕ) (all : List Recording) : Type 0 where
   pub world : AreOfWorld files (length all)
   pub each : AllDone files image (length all) all
 
@@ -123,7 +132,7 @@ pub record HasOneGuest (image : List ℕ) (opening : Header) (all : List Recordi
 
 -- the hosts of a world did what the journals tell; that has an order, what was asked for of it was written, and the guest
 -- in it is the one that never moves
-pub record AreAudited (files : List JournalFile) (image : List ℕ) (text : AuditText) (before after : Option (List ℕ))
+pub record AreAudited (files : List JournalText) (image : List ℕ) (text : AuditText) (before after : Option (List ℕ))
     : Type 0 where
   pub all : List Recording
   pub replayed : AreReplayed files image all

@@ -1,5 +1,5 @@
 -- What is wrong with a journal in a file, and what is reported of it.
-use Rattle.std.specs.Prelude.{◌≡◌, ◌≢◌, ℕ, List, [], ◌++◌, Option, None, IsSomeAnd, codes}
+use Rattle.std.specs.Prelude.{◌≡◌, ◌≢◌, ◌⊎◌, ⊤, ℕ, List, [], ◌++◌, Option, None, IsSomeAnd, codes}
 use Rattle.std.specs.Char.{encode_utf8}
 use Rattle.sha2.specs.Sha256.{sha256}
 use Rattle.rvm_command.specs.declared.refused.Refused.{Refused}
@@ -8,7 +8,11 @@ use Rattle.rvm_command.specs.GuestFiles.{IsGuestRefusal}
 use Rattle.rvm_debug.specs.Words.{lines}
 use Rattle.rvm_journal.specs.declared.header.Header.{Header}
 use Rattle.rvm_journal.specs.declared.header.Image.{Image}
+use Rattle.rvm_journal.specs.declared.replay.JournalFault.{JournalFault}
+use Rattle.rvm_journal.specs.declared.replay.JournalFault.TheVariants.{BadLine, LongLine, TooLong, OutOfMemory, LinkFault}
+use Rattle.rvm_journal.specs.Headers.{header_at}
 use Rattle.rvm_journal.specs.Replaying as journal
+use Rattle.rvm_journal.specs.Whole.{IsJournal}
 use Rattle.rvm_journal.specs.Replaying.{IsJournalFault}
 use Rattle.rvm_replay.specs.declared.file.FileFault.{FileFault}
 use Rattle.rvm_replay.specs.declared.file.FileFault.TheVariants.{NoHeader, SameHost, SecondGuest, OtherHosts, OtherWorld, OtherProcess, MetOtherWorld, NoImage, OtherImage, Image as BadImage, Journal as BadJournal}
@@ -44,6 +48,20 @@ IsGuestFault OtherImage guest file = IsWrongImage guest file
 IsGuestFault (BadImage why) guest file = IsBadImage why guest file
 IsGuestFault (BadJournal why) guest file = ⊥
 
+-- a journal was not read to its end: memory ran out, a read failed, or a line is too long
+abbrev pub IsUnread : JournalFault → Type 0
+IsUnread (BadLine number) = ⊥
+IsUnread (LongLine number) = ⊤
+IsUnread (TooLong most) = ⊥
+IsUnread OutOfMemory = ⊤
+IsUnread LinkFault = ⊤
+
+-- why the header of a journal could not be read, of which these bytes are known: it has none, or was not read
+abbrev pub IsOpenFault : FileFault → (known : Option (List ℕ)) → Type 0
+IsOpenFault NoHeader known = (text : List ℕ) × IsJournal known text × (header_at text ≡ None)
+IsOpenFault (BadJournal why) known = IsUnread why
+IsOpenFault fault known = ⊥
+
 -- this is wrong with a journal of these bytes, which has this header, or none, and with the file of its image; its
 -- host takes `capacity` events at most. What is wrong with it beside other journals is wrong with none alone
 abbrev pub IsFileFault : FileFault → (most : Option ℕ) → (capacity : ℕ) → (header : Option Header) → (bytes image : List ℕ)
@@ -59,7 +77,7 @@ IsFileFault NoImage most capacity header bytes image = IsSomeAnd header (λ h. I
 IsFileFault OtherImage most capacity header bytes image = IsSomeAnd header (λ h. IsWrongImage h.guest image)
 IsFileFault (BadImage why) most capacity header bytes image = IsSomeAnd header (λ h. IsBadImage why h.guest image)
 IsFileFault (BadJournal why) most capacity header bytes image =
-    IsSomeAnd header (λ h. IsJournalFault why most h.hosts h.host (lines bytes) capacity capacity)
+    IsUnread why ⊎ IsSomeAnd header (λ h. IsJournalFault why most h.hosts h.host (lines bytes) capacity capacity)
 
 -- what is reported of it
 abbrev pub fault_text : FileFault → List ℕ

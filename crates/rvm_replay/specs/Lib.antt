@@ -8,6 +8,7 @@ pub mod Charts
 pub mod Meetings
 pub mod Audited
 pub mod Unaudited
+pub mod Worlds
 pub mod PlaceLines
 pub mod Findings
 pub mod Turns

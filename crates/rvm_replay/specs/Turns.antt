@@ -1,7 +1,7 @@
 -- The turns of the hosts of a world, and where each of them stands: at which host, and in that host's journal.
 use Rattle.std.specs.Fmt.{decimal}
 use Rattle.std.specs.Io.KnownBytes.{Appends}
-use Rattle.std.specs.Prelude.{◌≡◌, ◌⊎◌, ℕ, zero, suc, ◌+◌, ◌-◌, ◌<◌, ◌==◌, List, [], ◌∷◌, ◌++◌, Option, Some, Result, Ok, Err, codes, count_by, flat_map, length, slice_get, replicate, sum_by, take}
+use Rattle.std.specs.Prelude.{◌≡◌, ◌⊎◌, true, ℕ, zero, suc, ◌+◌, ◌-◌, ◌<◌, ◌==◌, List, [], ◌∷◌, ◌++◌, Option, Some, Result, Ok, Err, codes, count_by, flat_map, length, slice_get, replicate, sum_by, take}
 use Rattle.rvm_audit.specs.Rule.{IsMerge}
 use Rattle.rvm_audit.specs.declared.placed.HostTurns.{HostTurns}
 use Rattle.rvm_audit.specs.declared.placed.Piece.TheVariants as piece
@@ -11,17 +11,14 @@ use Rattle.rvm_core.specs.declared.event.Event.{Event}
 use Rattle.rvm_message.specs.declared.event.HostEvent.TheVariants.{Do}
 use Rattle.rvm_recorder.specs.Entries.{PlainEntry}
 use Rattle.rvm_recorder.specs.History.{Recording}
-use Rattle.rvm_replay.specs.Audited.{AreReplayed, IsOnlyOne, journals_in}
+use Rattle.rvm_replay.specs.Audited.{AreReplayed, is_wanted, journals_in}
 use Rattle.rvm_replay.specs.Counts.{turns_in}
 use Rattle.rvm_replay.specs.Findings.{AreNotAudited, AreNotInOrder, AreOpen}
 use Rattle.rvm_replay.specs.Replays.{HasSessionStatus}
-use Rattle.rvm_replay.specs.Unaudited.{IsHeadersFault}
-use Rattle.rvm_replay.specs.declared.file.JournalFile.{JournalFile}
+use Rattle.rvm_replay.specs.Journals.{JournalText, header_number}
 use Rattle.rvm_replay.specs.declared.headers.Wanted.TheVariants.{OfHost}
 use Rattle.rvm_replay.specs.declared.journal_turns.Passed.{Passed}
 use Rattle.rvm_replay.specs.declared.turns.TurnPlace.{TurnPlace}
-use Rattle.rvm_replay.specs.declared.turns.Unplaced.TheVariants.{Few, Fault}
-use Rattle.rvm_replay.specs.declared.turns.Unplaced.{Unplaced}
 
 -- the host that was asked for an event, if that is a turn
 abbrev pub turn_at : Event → List ℕ
@@ -80,18 +77,13 @@ pub record IsTurnAt (all : List Recording) (events : List Event) (turn x count :
   pub there : EndWithTurn host.journal.entries own count
 
 -- such a turn is at the first `count` entries of the journal with this index
-pub record IsPlaceOf (files : List JournalFile) (all : List Recording) (events : List Event) (turn index count : ℕ) : Type 0 where
+pub record IsPlaceOf (files : List JournalText) (all : List Recording) (events : List Event) (turn index count : ℕ) : Type 0 where
   pub host : ℕ
   pub turn_is : IsTurnAt all events turn host count
-  pub only : IsOnlyOne files (OfHost host) (Some index)
-
--- why such a turn has no place: there are fewer turns, or the journals are not those of hosts of one world
-abbrev pub IsUnplaced : List JournalFile → List Event → (turn : ℕ) → Unplaced → Type 0
-IsUnplaced files events turn (Few all) = (length (turn_hosts events) ≡ all) × (all < turn)
-IsUnplaced files events turn (Fault fault) = IsHeadersFault files fault
+  pub of_host : is_wanted (OfHost host) (header_number files index) ≡ true
 
 -- the hosts of a world did what their journals tell, and that has an order, that of the rule, in which a turn has this place
-pub record HasPlace (files : List JournalFile) (image : List ℕ) (turn index count : ℕ) : Type 0 where
+pub record HasPlace (files : List JournalText) (image : List ℕ) (turn index count : ℕ) : Type 0 where
   pub all : List Recording
   pub events : List Event
   pub replayed : AreReplayed files image all
@@ -100,17 +92,17 @@ pub record HasPlace (files : List JournalFile) (image : List ℕ) (turn index co
 
 -- a session was answered or not, and has this status, for the guest that is at the host of such a turn once that host did
 -- again what its journal tells up to the turn, and with it
-pub record IsTurnSession (files : List JournalFile) (image : List ℕ) (turn status : ℕ)
+pub record IsTurnSession (files : List JournalText) (image : List ℕ) (turn status : ℕ)
     (session out out' errors errors' : Option (List ℕ)) : Type 0 where
   pub index : ℕ
   pub count : ℕ
-  pub file : JournalFile
+  pub file : JournalText
   pub place : HasPlace files image turn index count
   pub file_is : slice_get files index ≡ Some file
-  pub ended : HasSessionStatus status file.name.now (Some count) file.bytes.items image session out out' errors errors'
+  pub ended : HasSessionStatus status file.name (Some count) file.text image session out out' errors errors'
 
 -- a report of such a session is not complete, since a write to the errors failed: errors that held nothing would hold it
-abbrev pub IsUntoldSession : List JournalFile → (image : List ℕ) → (turn : ℕ) → (session out out' : Option (List ℕ)) → Type 0
+abbrev pub IsUntoldSession : List JournalText → (image : List ℕ) → (turn : ℕ) → (session out out' : Option (List ℕ)) → Type 0
 IsUntoldSession files image turn session out out' =
     (status : ℕ) × (report : List ℕ) × IsTurnSession files image turn status session out out' (Some []) (Some report)
 
@@ -119,7 +111,7 @@ abbrev pub few_turns_line : (count : ℕ) → List ℕ
 few_turns_line n = codes "the journals tell " ++ (decimal n ++ (codes " turns" ++ codes "\n"))
 
 -- the hosts of a world did what their journals tell, and that has an order with fewer turns than this number, which was reported
-pub record HaveFewTurns (files : List JournalFile) (image : List ℕ) (turn : ℕ) (errors errors' : Option (List ℕ)) : Type 0 where
+pub record HaveFewTurns (files : List JournalText) (image : List ℕ) (turn : ℕ) (errors errors' : Option (List ℕ)) : Type 0 where
   pub all : List Recording
   pub events : List Event
   pub replayed : AreReplayed files image all
@@ -129,7 +121,7 @@ pub record HaveFewTurns (files : List JournalFile) (image : List ℕ) (turn : �
 
 -- by its status, why there is no such turn, which was reported, and nothing else was written: the journals are not audited,
 -- have no order, or tell fewer turns; or what was cut off may explain that they have no order
-abbrev pub IsNoTurn : (status : ℕ) → List JournalFile → (image : List ℕ) → (turn : ℕ)
+abbrev pub IsNoTurn : (status : ℕ) → List JournalText → (image : List ℕ) → (turn : ℕ)
     → (out out' errors errors' : Option (List ℕ)) → Type 0
 IsNoTurn (suc zero) files image turn out out' errors errors' =
     AreNotAudited 4294967295 files image out out' errors errors'
@@ -139,7 +131,7 @@ IsNoTurn (suc (suc (suc zero))) files image turn out out' errors errors' = AreOp
 IsNoTurn status files image turn out out' errors errors' = ⊥
 
 -- a turn has this place, and nothing was reported; or it has none, and the status says why
-abbrev pub IsLooked : List JournalFile → (image : List ℕ) → (turn : ℕ) → Result TurnPlace ℕ → (errors errors' : Option (List ℕ))
+abbrev pub IsLooked : List JournalText → (image : List ℕ) → (turn : ℕ) → Result TurnPlace ℕ → (errors errors' : Option (List ℕ))
     → Type 0
 IsLooked files image turn (Ok place) errors errors' =
     HasPlace files image turn place.index place.count × (errors' ≡ errors)
@@ -148,19 +140,19 @@ IsLooked files image turn (Err status) errors errors' =
 
 -- a report that there is no such turn is not complete, since a write to the errors failed: errors that held nothing would
 -- hold it
-abbrev pub IsUntoldLook : List JournalFile → (image : List ℕ) → (turn : ℕ) → Type 0
+abbrev pub IsUntoldLook : List JournalText → (image : List ℕ) → (turn : ℕ) → Type 0
 IsUntoldLook files image turn =
     (out : Option (List ℕ)) → (status : ℕ) × (report : List ℕ) × IsNoTurn status files image turn out out (Some []) (Some report)
 
 -- by its status, how a replay ended that hands the guest after a turn to a session of the debugger: with the session, or
 -- there is no such turn
-abbrev pub HasTurnStatus : (status : ℕ) → List JournalFile → (image : List ℕ) → (turn : ℕ)
+abbrev pub HasTurnStatus : (status : ℕ) → List JournalText → (image : List ℕ) → (turn : ℕ)
     → (session out out' errors errors' : Option (List ℕ)) → Type 0
 HasTurnStatus status files image turn session out out' errors errors' =
     IsTurnSession files image turn status session out out' errors errors'
     ⊎ IsNoTurn status files image turn out out' errors errors'
 
 -- a report of such a replay is not complete, since a write to the errors failed: errors that held nothing would hold it
-abbrev pub IsUntoldTurn : List JournalFile → (image : List ℕ) → (turn : ℕ) → (session out out' : Option (List ℕ)) → Type 0
+abbrev pub IsUntoldTurn : List JournalText → (image : List ℕ) → (turn : ℕ) → (session out out' : Option (List ℕ)) → Type 0
 IsUntoldTurn files image turn session out out' =
     (status : ℕ) × (report : List ℕ) × HasTurnStatus status files image turn session out out' (Some []) (Some report)

@@ -7,14 +7,15 @@ ghost use Rattle.rvm_replay.specs.Counts.{counts_of};
 
 use crate::counts::Counts;
 use crate::file::FileFault;
-use crate::hosts::{idle_host, opening_host, replay_bytes};
-use crate::kept::Kept;
+use crate::hosts::{idle_host, opening_host, replay_journal};
+use crate::kept::{Kept, KeptHost};
 use crate::replaying::Replayed;
 use rvm_audit::{Observer, Outline, Stretches};
-use rvm_journal::{Header, JournalFault, Recorder};
+use rvm_journal::{JournalFault, JournalReader, Recorder};
 use rvm_mem::PagedMemory;
 use rvm_recorder::Item;
 use std::alloc::{AllocError, Global};
+use std::io::BufRead;
 use std::marker::Model;
 use std::snapshot::Snapshot;
 
@@ -104,17 +105,16 @@ impl<M: PagedMemory + Drop> Kept for Account<M> {
 
     ghost capacity = { most_replayed };
 
-    fn replay(
+    fn replay<I: BufRead + Drop>(
         alloc: Global,
-        header: &Header,
-        bytes: &[u8],
+        reader: JournalReader<I>,
         image: &[u8],
-    ) -> Result<Account<M>, FileFault> {
-        let host = opening_host::<M>(alloc, header, image)?;
+    ) -> Result<KeptHost<Account<M>>, FileFault> {
+        let host = opening_host::<M>(alloc, &reader.header(), image)?;
         let mut replayed = Replayed::new(alloc, host);
-        match replay_bytes(alloc, header, bytes, image, None, &mut replayed) {
-            Ok(()) => match Account::of(alloc, replayed) {
-                Ok(account) => Ok(account),
+        match replay_journal(reader, image, None, &mut replayed) {
+            Ok(journal) => match Account::of(alloc, replayed) {
+                Ok(kept) => Ok(KeptHost { kept, journal }),
                 Err(_) => Err(FileFault::Journal(JournalFault::OutOfMemory)),
             },
             Err(fault) => {

@@ -16,12 +16,12 @@ ghost use Rattle.rvm_replay.specs.Findings.{HasAuditStatus, HasFew, HasFindingSt
 ghost use Rattle.rvm_replay.specs.Counts.{summary_of};
 ghost use Rattle.rvm_replay.specs.PlaceLines.{place_lines};
 ghost use Rattle.rvm_replay.specs.declared.audit.AuditText.TheVariants.{Summary};
-ghost use Rattle.rvm_replay.specs.declared.file.JournalFile.{JournalFile};
+ghost use Rattle.rvm_replay.specs.Journals.{AreTexts, JournalText, plain_names};
 
 use crate::account::Account;
 use crate::chart::write_chart;
 use crate::cuts::cuts_of;
-use crate::file::{JournalFile, JournalsFault};
+use crate::file::{JournalsFault, ReadFile};
 use crate::kept::counts_of;
 use crate::places::write_places;
 use crate::progress::show_search;
@@ -39,7 +39,7 @@ use rvm_mem::PagedMemory;
 use rvm_recorder::{Journal, Recorded};
 use rvm_refusal::{LinkFault, Refusal};
 use std::alloc::{AllocError, Global};
-use std::io::{BufWriter, Write};
+use std::io::{BufRead, BufWriter, Write};
 
 /// The status of an audit that found no order, where what was cut off may be the reason.
 const UNDECIDED: u8 = 3;
@@ -92,9 +92,9 @@ pub(crate) struct Extent {
     pub counts: Vec<u64>,
 }
 
-/// Has the hosts of a world do again what their journals tell, and looks for one order of all their events. `files` are
-/// journals of hosts of one world, in any order: exactly one is of the host that began with the guest of `image`, and no
-/// two are of one host. A host without a journal is taken to have done nothing. A journal that does not tell its end was
+/// Has the hosts of a world do again what their journals tell, and looks for one order of all their events. `inputs` are read
+/// to their ends, each once; they are journals of hosts of one world, in any order, in files with these `names`: exactly one
+/// is of the host that began with the guest of `image`, and no two are of one host. A host without a journal is taken to have done nothing. A journal that does not tell its end was
 /// cut off: what its host did after it is not known.
 ///
 /// Returns the status. It is 0 if there is an order: then it is a run of one world in which the guest never moved, what
@@ -103,95 +103,119 @@ pub(crate) struct Extent {
 /// fails. `errors` says which journal is refused and why, how much of each journal is in order, or `LinkFault` for a
 /// write. The error `LinkFault` says that a write to `errors` failed. `progress` gets a line for each journal, before its
 /// host does again what it tells, and one before an order is looked for; what cannot be written there is lost.
-pub fn audit_journals<M: PagedMemory + Drop, O: Write + Drop, P: Write, E: Write>(
+pub fn audit_journals<
+    M: PagedMemory + Drop,
+    I: BufRead + Drop,
+    O: Write + Drop,
+    P: Write,
+    E: Write,
+>(
     alloc: Global,
-    files: &[JournalFile<'_>],
+    names: &[&str],
+    inputs: Vec<I>,
     image: &[u8],
     text: AuditText,
     output: &mut BufWriter<O>,
     progress: &mut P,
     errors: &mut E,
 ) -> Result<u8, LinkFault>
-    ensures status { IfOk result (λ status. HasAuditStatus status files.now image.now text
+    requires named { length names.now ≡ length inputs.items }
+    ensures status { IfOk result (λ status. (files : List JournalText)
+        × AreTexts names.now (map I.remaining inputs.items) files × HasAuditStatus status files image.now text
         (writer_contents O.contents output.old) (writer_contents O.contents output.new)
         (E.contents errors.old) (E.contents errors.new)) }
     ensures out { IfOk result (λ status. status ≡ 0 → is_flushed output.new) }
-    ensures untold { OnErr result (IsUntoldAudit files.now image.now text
+    ensures untold { OnErr result ((files : List JournalText)
+        × AreTexts names.now (map I.remaining inputs.items) files × IsUntoldAudit files image.now text
         (writer_contents O.contents output.old) (writer_contents O.contents output.new)) }
 {
     match text {
         AuditText::Summary => {
-            audit_accounts::<M, O, P, E>(alloc, files, image, output, progress, errors)
+            audit_accounts::<M, I, O, P, E>(alloc, names, inputs, image, output, progress, errors)
         }
         AuditText::Order => {
             let text = OrderText::Events;
-            audit_events::<M, O, P, E>(alloc, files, image, text, output, progress, errors)
+            audit_events::<M, I, O, P, E>(
+                alloc, names, inputs, image, text, output, progress, errors,
+            )
         }
         AuditText::Chart => {
             let text = OrderText::Chart;
-            audit_events::<M, O, P, E>(alloc, files, image, text, output, progress, errors)
+            audit_events::<M, I, O, P, E>(
+                alloc, names, inputs, image, text, output, progress, errors,
+            )
         }
     }
 }
 
 /// Audits journals as `audit_journals` does if their events are asked for, in order or as a chart. Keeps all events.
-fn audit_events<M: PagedMemory + Drop, O: Write + Drop, P: Write, E: Write>(
+fn audit_events<M: PagedMemory + Drop, I: BufRead + Drop, O: Write + Drop, P: Write, E: Write>(
     alloc: Global,
-    files: &[JournalFile<'_>],
+    names: &[&str],
+    inputs: Vec<I>,
     image: &[u8],
     text: OrderText,
     output: &mut BufWriter<O>,
     progress: &mut P,
     errors: &mut E,
 ) -> Result<u8, LinkFault>
-    ensures status { IfOk result (λ status. HasAuditStatus status files.now image.now (text_of text)
+    requires named { length names.now ≡ length inputs.items }
+    ensures status { IfOk result (λ status. (files : List JournalText)
+        × AreTexts names.now (map I.remaining inputs.items) files × HasAuditStatus status files image.now (text_of text)
         (writer_contents O.contents output.old) (writer_contents O.contents output.new)
         (E.contents errors.old) (E.contents errors.new)) }
     ensures out { IfOk result (λ status. status ≡ 0 → is_flushed output.new) }
-    ensures untold { OnErr result (IsUntoldAudit files.now image.now (text_of text)
+    ensures untold { OnErr result ((files : List JournalText)
+        × AreTexts names.now (map I.remaining inputs.items) files × IsUntoldAudit files image.now (text_of text)
         (writer_contents O.contents output.old) (writer_contents O.contents output.new)) }
 {
-    match replay_all::<Recorded<M>, P>(alloc, files, image, progress) {
-        Ok(all) => {
+    match replay_all::<Recorded<M>, I, P>(alloc, names, inputs, image, progress) {
+        Ok(world) => {
             show_search(progress);
-            let ended = audit_replayed(alloc, files, all.as_slice(), text, output, errors);
+            let files = world.files.as_slice();
+            let ended = audit_replayed(alloc, files, world.hosts.as_slice(), text, output, errors);
             the_guest_of_an_order_never_moves();
-            drop(all);
+            drop(world);
             ended
         }
         Err(fault) => {
-            tell_fault(files, fault, errors)?;
+            tell_fault(names, fault, errors)?;
             Ok(1)
         }
     }
 }
 
 /// Audits journals as `audit_journals` does if only what they add up to is asked for. Keeps no events.
-fn audit_accounts<M: PagedMemory + Drop, O: Write + Drop, P: Write, E: Write>(
+fn audit_accounts<M: PagedMemory + Drop, I: BufRead + Drop, O: Write + Drop, P: Write, E: Write>(
     alloc: Global,
-    files: &[JournalFile<'_>],
+    names: &[&str],
+    inputs: Vec<I>,
     image: &[u8],
     output: &mut BufWriter<O>,
     progress: &mut P,
     errors: &mut E,
 ) -> Result<u8, LinkFault>
-    ensures status { IfOk result (λ status. HasAuditStatus status files.now image.now Summary
+    requires named { length names.now ≡ length inputs.items }
+    ensures status { IfOk result (λ status. (files : List JournalText)
+        × AreTexts names.now (map I.remaining inputs.items) files × HasAuditStatus status files image.now Summary
         (writer_contents O.contents output.old) (writer_contents O.contents output.new)
         (E.contents errors.old) (E.contents errors.new)) }
     ensures out { IfOk result (λ status. status ≡ 0 → is_flushed output.new) }
-    ensures untold { OnErr result (IsUntoldAudit files.now image.now Summary
+    ensures untold { OnErr result ((files : List JournalText)
+        × AreTexts names.now (map I.remaining inputs.items) files × IsUntoldAudit files image.now Summary
         (writer_contents O.contents output.old) (writer_contents O.contents output.new)) }
 {
-    match replay_all::<Account<M>, P>(alloc, files, image, progress) {
-        Ok(all) => {
+    match replay_all::<Account<M>, I, P>(alloc, names, inputs, image, progress) {
+        Ok(world) => {
             show_search(progress);
-            let ended = audit_all_accounts(alloc, files, all.as_slice(), output, errors);
+            let files = world.files.as_slice();
+            let ended = audit_all_accounts(alloc, files, world.hosts.as_slice(), output, errors);
             the_guest_of_an_order_never_moves();
-            drop(all);
+            drop(world);
             ended
         }
         Err(fault) => {
-            tell_fault(files, fault, errors)?;
+            tell_fault(names, fault, errors)?;
             Ok(1)
         }
     }
@@ -201,7 +225,7 @@ fn audit_accounts<M: PagedMemory + Drop, O: Write + Drop, P: Write, E: Write>(
 /// Returns the status.
 fn audit_all_accounts<M: PagedMemory + Drop, O: Write + Drop, E: Write>(
     alloc: Global,
-    files: &[JournalFile<'_>],
+    files: &[ReadFile<'_>],
     all: &[Account<M>],
     output: &mut BufWriter<O>,
     errors: &mut E,
@@ -256,7 +280,7 @@ fn tell_written<E: Write>(written: Result<(), LinkFault>, errors: &mut E) -> Res
 /// Looks whether the journals of these hosts have an order; if they have none, whether they contradict one another.
 fn why_unordered<M: PagedMemory + Drop>(
     alloc: Global,
-    files: &[JournalFile<'_>],
+    files: &[ReadFile<'_>],
     all: &[Account<M>],
 ) -> Result<Option<Unordered>, AllocError>
     requires { length all.now ≤ 8 }
@@ -296,7 +320,7 @@ fn outlines_of<'a, M: PagedMemory + Drop>(
 /// Returns the status.
 fn audit_replayed<M: PagedMemory + Drop, O: Write + Drop, E: Write>(
     alloc: Global,
-    files: &[JournalFile<'_>],
+    files: &[ReadFile<'_>],
     all: &[Recorded<M>],
     text: OrderText,
     output: &mut BufWriter<O>,
@@ -322,7 +346,7 @@ fn audit_replayed<M: PagedMemory + Drop, O: Write + Drop, E: Write>(
 
 /// Reports how much of journals is in order, and why not all is. Returns the status.
 pub(crate) fn tell_unordered<E: Write>(
-    files: &[JournalFile<'_>],
+    files: &[ReadFile<'_>],
     why: Unordered,
     errors: &mut E,
 ) -> Result<u8, LinkFault>
@@ -348,7 +372,7 @@ pub(crate) fn tell_unordered<E: Write>(
 
 /// Reports how far journals have an order.
 fn write_extent<E: Write>(
-    files: &[JournalFile<'_>],
+    files: &[ReadFile<'_>],
     extent: &Extent,
     errors: &mut E,
 ) -> Result<(), LinkFault>
@@ -367,7 +391,7 @@ fn write_extent<E: Write>(
 /// Looks for an order of the journals of these hosts; if there is none, whether they contradict one another.
 pub(crate) fn find<M: PagedMemory + Drop>(
     alloc: Global,
-    files: &[JournalFile<'_>],
+    files: &[ReadFile<'_>],
     all: &[Recorded<M>],
 ) -> Result<Finding, AllocError>
     requires { length all.now ≤ 8 }
@@ -402,11 +426,11 @@ fn write_audit<M: PagedMemory + Drop, O: Write + Drop, E: Write>(
 ) -> Result<u8, LinkFault>
     requires few { length all.now ≤ 8 }
     requires merge { IsMerge (journals_in all.now) order.now }
-    ensures status { (files : List JournalFile) → IfOk result (λ status. HasFindingStatus status files all.now (text_of text)
+    ensures status { (files : List JournalText) → IfOk result (λ status. HasFindingStatus status files all.now (text_of text)
         (writer_contents O.contents output.old) (writer_contents O.contents output.new)
         (E.contents errors.old) (E.contents errors.new)) }
     ensures out { IfOk result (λ status. status ≡ 0 → is_flushed output.new) }
-    ensures untold { (files : List JournalFile) → OnErr result (IsUntoldFinding files all.now (text_of text)
+    ensures untold { (files : List JournalText) → OnErr result (IsUntoldFinding files all.now (text_of text)
         (writer_contents O.contents output.old) (writer_contents O.contents output.new)) }
 {
     match write_flushed(all, order, text, output) {
@@ -451,17 +475,17 @@ fn journals_of<'a, M: PagedMemory + Drop>(
 
 /// Reports why journals are not audited.
 pub(crate) fn tell_fault<E: Write>(
-    files: &[JournalFile<'_>],
+    names: &[&str],
     fault: JournalsFault,
     errors: &mut E,
 ) -> Result<(), LinkFault>
-    ensures { OnOk result (IsFaultTold files.now fault (E.contents errors.old) (E.contents errors.new)) }
+    ensures { OnOk result (IsFaultTold (plain_names names.now) fault (E.contents errors.old) (E.contents errors.new)) }
 {
     match fault {
         JournalsFault::OutOfMemory => tell_refusal(Refusal::OutOfMemory, errors)?,
         JournalsFault::NoGuest => writeln!(errors, "no journal begins with a guest")?,
-        JournalsFault::File(index, fault) => match files.get(index) {
-            Some(file) => report_fault(file.name, fault, errors)?,
+        JournalsFault::File(index, fault) => match names.get(index) {
+            Some(name) => report_fault(name, fault, errors)?,
             None => report_fault("journal", fault, errors)?,
         },
     }

@@ -3,15 +3,14 @@
 ghost use Rattle.std.specs.Prelude.{◌≡◌, IfOk};
 ghost use Rattle.rvm_replay.specs.Findings.{cuts_of, is_cut, is_cut_of};
 
-use crate::file::JournalFile;
+use crate::file::ReadFile;
 use crate::places::is_of;
-use rvm_journal::is_whole;
 use std::alloc::{AllocError, Global};
 
 /// For each of this many hosts, whether its journal was cut off. The journal of a host that has none was not.
 pub(crate) fn cuts_of(
     alloc: Global,
-    files: &[JournalFile<'_>],
+    files: &[ReadFile<'_>],
     hosts: u8,
 ) -> Result<Vec<bool>, AllocError>
     ensures { IfOk result (λ cuts. cuts.items ≡ cuts_of files.now hosts) }
@@ -24,15 +23,15 @@ pub(crate) fn cuts_of(
 }
 
 /// Whether one of these journals is that of a host, and was cut off.
-fn is_cut(files: &[JournalFile<'_>], host: u8) -> bool
+fn is_cut(files: &[ReadFile<'_>], host: u8) -> bool
     ensures { result ≡ is_cut files.now host }
 {
     files.iter().any(|file| is_cut_of(file, host))
 }
 
 /// Whether a journal is that of a host, and was cut off.
-fn is_cut_of(file: &JournalFile<'_>, host: u8) -> bool
+fn is_cut_of(file: &ReadFile<'_>, host: u8) -> bool
     ensures { result ≡ is_cut_of host file.now }
 {
-    is_of(file, host) && !is_whole(&file.bytes)
+    is_of(file, host) && !file.journal().is_whole()
 }

@@ -1,16 +1,48 @@
 //! Journals in files, and what may be wrong with them.
 
-use rvm_command::refused::Refused;
-use rvm_journal::JournalFault;
-use std::fmt;
+ghost use Rattle.std.specs.Prelude.{◌≡◌};
 
-/// A journal in a file.
-#[derive(Debug, Drop)]
-pub struct JournalFile<'a> {
-    /// The name of the file.
-    pub name: &'a str,
-    /// All bytes of the file.
-    pub bytes: Vec<u8>,
+use rvm_command::refused::Refused;
+use rvm_journal::{JournalFault, ReadJournal};
+use std::fmt;
+use std::marker::Model;
+
+/// A journal in a file that was read to its end.
+#[derive(Drop)]
+pub(crate) struct ReadFile<'a> {
+    name: &'a str,
+    journal: ReadJournal,
+}
+
+impl<'a> Model for ReadFile<'a> {
+    ghost use Rattle.rvm_replay.specs.Journals.{JournalText};
+
+    ghost Value = { JournalText };
+
+    ghost view = { λ f. record { name = f.name.now; text = f.journal } };
+}
+
+impl<'a> ReadFile<'a> {
+    /// A journal that was read from the file with this name.
+    pub(crate) fn new(name: &'a str, journal: ReadJournal) -> ReadFile<'a>
+        ensures { result ≡ record { name = name.now; text = journal } }
+    {
+        ReadFile { name, journal }
+    }
+
+    /// Returns the name of the file.
+    pub(crate) fn name(&self) -> &'a str
+        ensures { result.now ≡ self.now.name }
+    {
+        self.name
+    }
+
+    /// Returns what was read.
+    pub(crate) fn journal(&self) -> &ReadJournal
+        ensures { result.now ≡ self.now.text }
+    {
+        &self.journal
+    }
 }
 
 /// What is wrong with a journal.

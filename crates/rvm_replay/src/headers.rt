@@ -1,16 +1,14 @@
-//! Whether journals in files are those of hosts of one world.
+//! Whether journals are those of hosts of one world, by their headers.
 
-ghost use Rattle.std.specs.Prelude.{◌≡◌, ◌≤◌, ◌<◌, ℕ, List, IfErr, IfOk, OnOk, Some, length};
-ghost use Rattle.rvm_journal.specs.Headers.{IsRanged};
-ghost use Rattle.rvm_replay.specs.Audited.{AreOfWorld, HasHeaderOf, HaveHeadersOf, IsOnlyOne, is_wanted};
-ghost use Rattle.rvm_replay.specs.Journals.{header_number};
+ghost use Rattle.std.specs.Prelude.{◌≡◌, ◌≤◌, ◌<◌, ℕ, IfErr, IfOk, OnOk, Some, length};
+ghost use Rattle.rvm_replay.specs.Audited.{AreOfOneWorld, AreOnce, HasHeaderOf, HaveHeadersOf, IsOnlyOne, is_wanted};
+ghost use Rattle.rvm_replay.specs.Journals.{Headers, headers_of};
 ghost use Rattle.rvm_replay.specs.Unaudited.{IsHeaderFault, IsHeadersFault, IsSecond};
-ghost use Rattle.rvm_replay.specs.declared.file.JournalFile.{JournalFile};
 ghost use Rattle.rvm_replay.specs.declared.headers.Wanted.TheVariants.{WithGuest};
 
-use crate::file::{FileFault, JournalFile, JournalsFault};
-use crate::meetings::check_meetings;
-use rvm_journal::{Header, letter_of, read_header};
+use crate::file::{FileFault, JournalsFault};
+use rvm_journal::{Header, JournalReader, letter_of};
+use std::io::BufRead;
 
 /// Which journal is looked for.
 #[derive(Clone, Copy)]
@@ -21,47 +19,48 @@ pub(crate) enum Wanted {
     OfHost(u8),
 }
 
-/// Checks that journals are those of hosts of one world: each has a header; no two are of one host; exactly one is of a
-/// host that began with a guest, and each other one tells as many hosts as that one, and the same number of the world, or
-/// 0; and each host that one tells to have been met is of that world, and of the process that its own journal tells.
-/// Returns the number of hosts.
-pub(crate) fn hosts_of_world(files: &[JournalFile<'_>]) -> Result<u8, JournalsFault>
-    ensures world { IfOk result (AreOfWorld files.now) }
-    ensures range { IfOk result (λ hosts. (2 ≤ hosts) × (hosts ≤ 8)) }
-    ensures fault { IfErr result (IsHeadersFault files.now) }
+/// Checks by their headers that journals are those of hosts of one world: no two are of one host; exactly one is of a host
+/// that began with a guest, and each other one tells as many hosts as that one, and the same number of the world, or 0.
+/// Returns the header of the one.
+pub(crate) fn opening_of_world<I: BufRead + Drop>(
+    readers: &[JournalReader<I>],
+) -> Result<Header, JournalsFault>
+    ensures world { IfOk result (λ opening. AreOfOneWorld (headers_of readers.now) opening.hosts opening) }
+    ensures range { IfOk result (λ opening. (2 ≤ opening.hosts) × (opening.hosts ≤ 8)) }
+    ensures fault { IfErr result (IsHeadersFault (headers_of readers.now)) }
 {
-    check_hosts(files)?;
-    let Some(first) = index_of(files, Wanted::WithGuest)? else {
+    check_hosts(readers)?;
+    let Some(first) = index_of(readers, Wanted::WithGuest)? else {
         return Err(JournalsFault::NoGuest);
     };
-    let opening = header_number(files, first)?;
-    check_headers(files, first, &opening)?;
-    check_meetings(files, first, &opening)?;
-    Ok(opening.hosts)
+    let opening = readers[first].header();
+    check_headers(readers, first, &opening)?;
+    Ok(opening)
 }
 
-/// Checks that each journal has a header, and that no two are of one host.
-fn check_hosts(files: &[JournalFile<'_>]) -> Result<(), JournalsFault>
-    ensures fault { IfErr result (IsHeadersFault files.now) }
+/// Checks that no two journals are of one host.
+fn check_hosts<I: BufRead + Drop>(readers: &[JournalReader<I>]) -> Result<(), JournalsFault>
+    ensures once { OnOk result (AreOnce (headers_of readers.now) 8) }
+    ensures fault { IfErr result (IsHeadersFault (headers_of readers.now)) }
 {
     for host in 0..8 {
-        let _only = index_of(files, Wanted::OfHost(host))?;
+        let _only = index_of(readers, Wanted::OfHost(host))?;
     }
     Ok(())
 }
 
 /// The index of the one journal that is wanted; none if no journal is. Fails if two are.
 #[tactic(auto, using(crate::proofs::OnlyOne::first_found, crate::proofs::OnlyOne::none_more, crate::proofs::OnlyOne::some_more))]
-pub(crate) fn index_of(
-    files: &[JournalFile<'_>],
+fn index_of<I: BufRead + Drop>(
+    readers: &[JournalReader<I>],
     wanted: Wanted,
 ) -> Result<Option<usize>, JournalsFault>
-    ensures only { IfOk result (IsOnlyOne files.now wanted) }
-    ensures fault { IfErr result (IsHeadersFault files.now) }
+    ensures only { IfOk result (IsOnlyOne (headers_of readers.now) wanted) }
+    ensures fault { IfErr result (IsHeadersFault (headers_of readers.now)) }
 {
     let mut found = None;
-    for index in 0..files.len() {
-        found = match (is_wanted_at(files, index, wanted)?, found) {
+    for index in 0..readers.len() {
+        found = match (is_wanted_at(readers, index, wanted), found) {
             (false, found) => found,
             (true, None) => Some(index),
             (true, Some(_)) => return Err(JournalsFault::File(index, second_of(wanted))),
@@ -71,17 +70,15 @@ pub(crate) fn index_of(
 }
 
 /// Whether the journal with this index is wanted.
-fn is_wanted_at(
-    files: &[JournalFile<'_>],
+fn is_wanted_at<I: BufRead + Drop>(
+    readers: &[JournalReader<I>],
     index: usize,
     wanted: Wanted,
-) -> Result<bool, JournalsFault>
-    requires { index < length files.now }
-    ensures wanted { IfOk result (λ is. is ≡ is_wanted wanted (header_number files.now index)) }
-    ensures fault { IfErr result (IsHeadersFault files.now) }
+) -> bool
+    requires { index < length readers.now }
+    ensures { result ≡ is_wanted wanted ((headers_of readers.now).at index) }
 {
-    let header = header_number(files, index)?;
-    Ok(is_wanted(wanted, &header))
+    is_wanted(wanted, &readers[index].header())
 }
 
 /// Whether the journal with this header is wanted.
@@ -96,8 +93,7 @@ pub(crate) fn is_wanted(wanted: Wanted, header: &Header) -> bool
 
 /// What is wrong with a second journal that is wanted.
 fn second_of(wanted: Wanted) -> FileFault
-    ensures { (files : List JournalFile) → (index : ℕ) → IsSecond files wanted index
-        → IsHeaderFault files index result }
+    ensures { (hs : Headers) → (index : ℕ) → IsSecond hs wanted index → IsHeaderFault hs index result }
 {
     match wanted {
         Wanted::WithGuest => FileFault::SecondGuest,
@@ -105,55 +101,39 @@ fn second_of(wanted: Wanted) -> FileFault
     }
 }
 
-/// Reads the header of the journal with this index.
-pub(crate) fn header_number(
-    files: &[JournalFile<'_>],
-    index: usize,
-) -> Result<Header, JournalsFault>
-    requires { index < length files.now }
-    ensures header { IfOk result (λ header. header_number files.now index ≡ Some header) }
-    ensures range { IfOk result IsRanged }
-    ensures fault { IfErr result (IsHeadersFault files.now) }
-{
-    match read_header(&files[index].bytes) {
-        Some(header) => Ok(header),
-        None => Err(JournalsFault::File(index, FileFault::NoHeader)),
-    }
-}
-
 /// Checks that each journal tells as many hosts as that with the index `first`, which has the header `opening`, and the
 /// same number of the world, or 0.
-fn check_headers(
-    files: &[JournalFile<'_>],
+fn check_headers<I: BufRead + Drop>(
+    readers: &[JournalReader<I>],
     first: usize,
     opening: &Header,
 ) -> Result<(), JournalsFault>
-    requires guest { IsOnlyOne files.now WithGuest (Some first) }
-    requires opening { header_number files.now first ≡ Some opening.now }
-    ensures headers { OnOk result (HaveHeadersOf files.now (length files.now) opening.now.hosts opening.now.world) }
-    ensures fault { IfErr result (IsHeadersFault files.now) }
+    requires guest { IsOnlyOne (headers_of readers.now) WithGuest (Some first) }
+    requires opening { (headers_of readers.now).at first ≡ Some opening.now }
+    ensures headers { OnOk result (HaveHeadersOf (headers_of readers.now) (length readers.now) opening.now.hosts opening.now.world) }
+    ensures fault { IfErr result (IsHeadersFault (headers_of readers.now)) }
 {
-    for index in 0..files.len() {
-        check_header(files, first, opening, index)?;
+    for index in 0..readers.len() {
+        check_header(readers, first, opening, index)?;
     }
     Ok(())
 }
 
 /// Checks that the journal with this index tells as many hosts as that with the index `first`, which has the header
 /// `opening`, and the same number of the world, or 0.
-fn check_header(
-    files: &[JournalFile<'_>],
+fn check_header<I: BufRead + Drop>(
+    readers: &[JournalReader<I>],
     first: usize,
     opening: &Header,
     index: usize,
 ) -> Result<(), JournalsFault>
-    requires index { index < length files.now }
-    requires guest { IsOnlyOne files.now WithGuest (Some first) }
-    requires opening { header_number files.now first ≡ Some opening.now }
-    ensures header { OnOk result (HasHeaderOf files.now opening.now.hosts opening.now.world index) }
-    ensures fault { IfErr result (IsHeadersFault files.now) }
+    requires index { index < length readers.now }
+    requires guest { IsOnlyOne (headers_of readers.now) WithGuest (Some first) }
+    requires opening { (headers_of readers.now).at first ≡ Some opening.now }
+    ensures header { OnOk result (HasHeaderOf (headers_of readers.now) opening.now.hosts opening.now.world index) }
+    ensures fault { IfErr result (IsHeadersFault (headers_of readers.now)) }
 {
-    let header = header_number(files, index)?;
+    let header = readers[index].header();
     if header.hosts != opening.hosts {
         return Err(JournalsFault::File(index, FileFault::OtherHosts));
     }

@@ -6,15 +6,18 @@ ghost use Rattle.rvm_board.specs.Guest.{GuestState};
 ghost use Rattle.rvm_host.specs.Hosts.{is_sized, new_host};
 ghost use Rattle.rvm_journal.specs.declared.header.Image.{Image};
 ghost use Rattle.rvm_journal.specs.Headers.{IsRanged, IsSized, header_at};
+ghost use Rattle.rvm_journal.specs.Reading.{IsAllRead, IsTextOf};
+ghost use Rattle.rvm_journal.specs.Whole.{IsJournal};
 ghost use Rattle.rvm_journal.specs.declared.replay.JournalFault.TheVariants as fault;
 ghost use Rattle.rvm_recorder.specs.History.{count_of};
 ghost use Rattle.rvm_replay.specs.Behind.{most_replayed};
 ghost use Rattle.rvm_replay.specs.declared.file.FileFault.TheVariants.{Journal, NoHeader};
-ghost use Rattle.rvm_replay.specs.FileFaults.{IsFileFault, IsGuestFault, IsOtherImage};
+ghost use Rattle.rvm_replay.specs.FileFaults.{IsFileFault, IsGuestFault, IsOpenFault, IsOtherImage};
 ghost use Rattle.rvm_replay.specs.Journals.{IsGuestNamed, IsHostAfter, IsHostOf, IsOpening};
 ghost use Rattle.rvm_replay.specs.Replays.{IsDone, guest_after};
 
 use crate::file::FileFault;
+use crate::kept::KeptHost;
 use crate::replaying::Replayed;
 use rvm_arguments::GuestArguments;
 use rvm_audit::Observer;
@@ -22,11 +25,12 @@ use rvm_board::{Debugged, MAX_HARTS};
 use rvm_command::guest::read_guest;
 use rvm_guest::valid_guest;
 use rvm_host::Host;
-use rvm_journal::{Header, Image, JournalFault, Recorder, read_header, replay_journal};
+use rvm_journal::{Header, Image, JournalFault, JournalReader, ReadJournal, Recorder};
 use rvm_mem::{MAX_PAGES, PagedMemory};
 use rvm_recorder::Recorded;
 use sha2::{Digest, Sha256};
 use std::alloc::Global;
+use std::io::BufRead;
 
 /// The version of the streams between host processes.
 const STREAM_VERSION: u32 = 3;
@@ -42,29 +46,44 @@ pub(crate) struct Done<M: PagedMemory + Drop, O: Drop> {
     pub observer: O,
 }
 
-/// Makes the host of a journal with these bytes, has it do what the journal tells, its first `most` events, or all, and
-/// shows an observer what it answers.
-pub(crate) fn host_of_journal<M: PagedMemory + Drop, O: Observer + Drop>(
+/// Makes the host of a journal that is read from `journal`, has it do what the journal tells, its first `most` events, or all,
+/// and shows an observer what it answers.
+pub(crate) fn host_of_journal<M: PagedMemory + Drop, O: Observer + Drop, I: BufRead + Drop>(
     alloc: Global,
-    journal: &[u8],
+    journal: I,
     image: &[u8],
     most: Option<u64>,
 ) -> Result<Done<M, O>, FileFault>
-    ensures host { IfOk result (λ d. IsDone O.shows most journal.now image.now
-        (option_map (λ (g : GuestState). g.guest) d.guest) d.count d.observer) }
-    ensures fault { IfErr result (λ why. IsFileFault why most most_replayed (header_at journal.now) journal.now image.now) }
+    ensures host { IfOk result (λ d. (text : List ℕ) × IsJournal (I.remaining journal) text × IsDone O.shows most text
+        image.now (option_map (λ (g : GuestState). g.guest) d.guest) d.count d.observer) }
+    ensures fault { IfErr result (λ why. (text : List ℕ) × IsJournal (I.remaining journal) text
+        × IsFileFault why most most_replayed (header_at text) text image.now) }
 {
-    let Some(header) = read_header(journal) else {
-        return Err(FileFault::NoHeader);
-    };
-    let host = opening_host::<M>(alloc, &header, image)?;
+    let reader = open_journal(alloc, journal)?;
+    let host = opening_host::<M>(alloc, &reader.header(), image)?;
     let mut replayed = Replayed::new(alloc, host);
-    match replay_bytes(alloc, &header, journal, image, most, &mut replayed) {
-        Ok(()) => finish(alloc, replayed),
+    match replay_journal(reader, image, most, &mut replayed) {
+        Ok(_read) => finish(alloc, replayed),
         Err(fault) => {
             drop(replayed);
             Err(fault)
         }
+    }
+}
+
+/// Reads the header of a journal.
+pub(crate) fn open_journal<I: BufRead + Drop>(
+    alloc: Global,
+    journal: I,
+) -> Result<JournalReader<I>, FileFault>
+    ensures known { IfOk result (λ reader. reader.known ≡ I.remaining journal) }
+    ensures text { IfOk result (λ reader. (text : List ℕ) × IsTextOf reader text) }
+    ensures fault { IfErr result (λ why. IsOpenFault why (I.remaining journal)) }
+{
+    match JournalReader::open(alloc, journal) {
+        Ok(Some(reader)) => Ok(reader),
+        Ok(None) => Err(FileFault::NoHeader),
+        Err(fault) => Err(FileFault::Journal(fault)),
     }
 }
 
@@ -89,21 +108,23 @@ fn finish<M: PagedMemory + Drop, O: Observer + Drop>(
     }
 }
 
-/// Makes the host of a journal with this header, and has it do all that the journal tells.
-pub(crate) fn record_journal<M: PagedMemory + Drop>(
+/// Makes the host of a journal, and has it do all that the journal tells.
+pub(crate) fn record_journal<M: PagedMemory + Drop, I: BufRead + Drop>(
     alloc: Global,
-    header: &Header,
-    bytes: &[u8],
+    reader: JournalReader<I>,
     image: &[u8],
-) -> Result<Recorded<M>, FileFault>
-    ensures host { IfOk result (IsHostOf header.now bytes.now image.now) }
-    ensures fault { IsRanged header.now
-        → IfErr result (λ why. IsFileFault why None 4294967295 (Some header.now) bytes.now image.now) }
+) -> Result<KeptHost<Recorded<M>>, FileFault>
+    ensures host { IfOk result (λ r. IsTextOf reader r.journal × IsHostOf reader.header r.journal image.now r.kept) }
+    ensures fault { IfErr result (λ why. (text : List ℕ) × IsTextOf reader text
+        × IsFileFault why None 4294967295 (Some reader.header) text image.now) }
 {
-    let host = opening_host::<M>(alloc, header, image)?;
+    let host = opening_host::<M>(alloc, &reader.header(), image)?;
     let mut recorded = Recorded::uncapped(alloc, host);
-    match replay_bytes(alloc, header, bytes, image, None, &mut recorded) {
-        Ok(()) => Ok(recorded),
+    match replay_journal(reader, image, None, &mut recorded) {
+        Ok(journal) => Ok(KeptHost {
+            kept: recorded,
+            journal,
+        }),
         Err(fault) => {
             drop(recorded);
             Err(fault)
@@ -125,26 +146,26 @@ pub(crate) fn opening_host<M: PagedMemory + Drop>(
     open_host(guest, header.hosts, header.host)
 }
 
-/// Has a host that has just begun do what its journal tells: its first `most` events, or all.
-pub(crate) fn replay_bytes<R: Recorder>(
-    alloc: Global,
-    header: &Header,
-    bytes: &[u8],
+/// Has a host that has just begun do what its journal tells: its first `most` events, or all. Returns what was read.
+pub(crate) fn replay_journal<I: BufRead + Drop, R: Recorder>(
+    reader: JournalReader<I>,
     image: &[u8],
     most: Option<u64>,
     recorder: &mut R,
-) -> Result<(), FileFault>
-    requires opening { IsOpening header.now image.now (R.recording recorder.old).journal.opening }
+) -> Result<ReadJournal, FileFault>
+    requires opening { IsOpening reader.header image.now (R.recording recorder.old).journal.opening }
     requires empty { (R.recording recorder.old).journal.entries ≡ [] }
-    ensures host { OnOk result (IsHostAfter most header.now bytes.now image.now (R.recording recorder.new)) }
-    ensures fault { IfErr result (λ why. IsFileFault why most (R.recording recorder.old).capacity (Some header.now)
-        bytes.now image.now) }
+    ensures host { IfOk result (λ read. (text : List ℕ) × IsTextOf reader text × IsAllRead most read text
+        × IsHostAfter most reader.header text image.now (R.recording recorder.new)) }
+    ensures fault { IfErr result (λ why. (text : List ℕ) × IsTextOf reader text × IsFileFault why most
+        (R.recording recorder.old).capacity (Some reader.header) text image.now) }
 {
     let _ = image;
-    match replay_journal(alloc, header.hosts, header.host, bytes, most, recorder) {
-        Ok(()) => {
+    let header = reader.header();
+    match reader.replay(header.hosts, header.host, most, recorder) {
+        Ok(read) => {
             recorder.know_answers();
-            Ok(())
+            Ok(read)
         }
         Err(fault) => Err(FileFault::Journal(fault)),
     }

@@ -1,7 +1,7 @@
 //! What is kept of the hosts of a world that do again what their journals tell.
 
-ghost use Rattle.std.specs.Prelude.{◌≡◌, ◌≤◌, ◌<◌, ℕ, IfErr, IfOk, None, Some, map};
-ghost use Rattle.rvm_journal.specs.Headers.{IsRanged};
+ghost use Rattle.std.specs.Prelude.{◌≡◌, ◌≤◌, ◌<◌, List, ℕ, IfErr, IfOk, None, Some, map};
+ghost use Rattle.rvm_journal.specs.Reading.{IsTextOf};
 ghost use Rattle.rvm_recorder.specs.History.{Recording, count_of};
 ghost use Rattle.rvm_replay.specs.Audited.{IsIdle};
 ghost use Rattle.rvm_replay.specs.FileFaults.{IsFileFault};
@@ -9,10 +9,20 @@ ghost use Rattle.rvm_replay.specs.Journals.{IsHostOf};
 
 use crate::file::FileFault;
 use crate::hosts::{idle_host, record_journal};
-use rvm_journal::Header;
+use rvm_journal::{JournalReader, ReadJournal};
 use rvm_mem::PagedMemory;
 use rvm_recorder::Recorded;
 use std::alloc::{AllocError, Global};
+use std::io::BufRead;
+
+/// A host that did again all that its journal tells.
+#[derive(Drop)]
+pub(crate) struct KeptHost<K> {
+    /// What is kept of the host.
+    pub kept: K,
+    /// What was read of the journal.
+    pub journal: ReadJournal,
+}
 
 /// What is kept of a host that does again what its journal tells.
 pub(crate) trait Kept {
@@ -22,11 +32,16 @@ pub(crate) trait Kept {
     /// How many events it can be asked for.
     ghost capacity: { ℕ };
 
-    /// Makes the host of a journal with this header, and has it do all that the journal tells.
-    fn replay(alloc: Global, header: &Header, bytes: &[u8], image: &[u8]) -> Result<Self, FileFault>
-        ensures host { IfOk result (λ kept. IsHostOf header.now bytes.now image.now (recording kept)) }
-        ensures fault { IsRanged header.now
-            → IfErr result (λ why. IsFileFault why None capacity (Some header.now) bytes.now image.now) };
+    /// Makes the host of a journal, and has it do all that the journal tells.
+    fn replay<I: BufRead + Drop>(
+        alloc: Global,
+        reader: JournalReader<I>,
+        image: &[u8],
+    ) -> Result<KeptHost<Self>, FileFault>
+        ensures host { IfOk result (λ r. IsTextOf reader r.journal
+            × IsHostOf reader.header r.journal image.now (recording r.kept)) }
+        ensures fault { IfErr result (λ why. (text : List ℕ) × IsTextOf reader text
+            × IsFileFault why None capacity (Some reader.header) text image.now) };
 
     /// Makes a host that does nothing. Fails if memory runs out.
     fn idle(alloc: Global, hosts: u8, host: u8) -> Result<Self, AllocError>
@@ -45,13 +60,12 @@ impl<M: PagedMemory + Drop> Kept for Recorded<M> {
 
     ghost capacity = { 4294967295 };
 
-    fn replay(
+    fn replay<I: BufRead + Drop>(
         alloc: Global,
-        header: &Header,
-        bytes: &[u8],
+        reader: JournalReader<I>,
         image: &[u8],
-    ) -> Result<Recorded<M>, FileFault> {
-        record_journal(alloc, header, bytes, image)
+    ) -> Result<KeptHost<Recorded<M>>, FileFault> {
+        record_journal(alloc, reader, image)
     }
 
     fn idle(alloc: Global, hosts: u8, host: u8) -> Result<Recorded<M>, AllocError> {

@@ -1,87 +1,58 @@
 //! Whether what journals tell of the hosts that were met agrees with the journals of these hosts.
 
-ghost use Rattle.std.specs.Prelude.{◌≡◌, ◌<◌, IfErr, IfNone, IfSome, IsSomeAnd, OnOk, Some, false, length, slice_get, true};
-ghost use Rattle.rvm_debug.specs.Words.{lines};
-ghost use Rattle.rvm_journal.specs.Meetings.{AllMeetings, SomeMeeting, meeting_of};
-ghost use Rattle.rvm_replay.specs.Audited.{IsOnlyOne};
-ghost use Rattle.rvm_replay.specs.Journals.{header_number};
+ghost use Rattle.std.specs.Prelude.{◌≡◌, ◌<◌, IfErr, IfNone, IfSome, OnOk, Some, false, length, slice_get, true};
+ghost use Rattle.rvm_journal.specs.Meetings.{AllMeetings, SomeMeeting};
+ghost use Rattle.rvm_replay.specs.Audited.{AreOfOneWorld};
+ghost use Rattle.rvm_replay.specs.Journals.{header_number, headers_in};
 ghost use Rattle.rvm_replay.specs.Meetings.{Agrees, HasMet, HasOtherProcess, HaveMet, HaveProcess, IsOtherProcess, IsProcess};
-ghost use Rattle.rvm_replay.specs.Unaudited.{IsHeadersFault, IsOtherMeeting};
-ghost use Rattle.rvm_replay.specs.declared.headers.Wanted.TheVariants.{WithGuest};
+ghost use Rattle.rvm_replay.specs.Unaudited.{AreMetOther, HasMetOther, IsOtherMeeting};
 
-use crate::file::{FileFault, JournalFile, JournalsFault};
-use rvm_debug::split_line;
-use rvm_journal::{Header, letter_of, meeting_of, read_header};
+use crate::file::{FileFault, JournalsFault, ReadFile};
+use rvm_journal::{Header, letter_of};
 use rvm_station::Meeting;
 
 /// Checks that each host that a journal tells to have been met is of the process that its own journal tells, if that is
-/// here, and of the world of the journal with the index `first`, which has the header `opening`.
-pub(crate) fn check_meetings(
-    files: &[JournalFile<'_>],
-    first: usize,
-    opening: &Header,
-) -> Result<(), JournalsFault>
-    requires guest { IsOnlyOne files.now WithGuest (Some first) }
-    requires opening { header_number files.now first ≡ Some opening.now }
+/// here, and of the world of the journal that has the header `opening`, with whose guest the world began.
+pub(crate) fn check_meetings(files: &[ReadFile<'_>], opening: &Header) -> Result<(), JournalsFault>
+    requires { AreOfOneWorld (headers_in files.now) opening.now.hosts opening.now }
     ensures met { OnOk result (HaveMet files.now (length files.now) opening.now.world) }
-    ensures fault { IfErr result (IsHeadersFault files.now) }
+    ensures fault { IfErr result (AreMetOther files.now) }
 {
     for index in 0..files.len() {
-        check_file(files, first, opening, index)?;
+        if let Some(fault) = fault_in_file(files, opening, index) {
+            return Err(JournalsFault::File(index, fault));
+        }
     }
     Ok(())
 }
 
-/// Checks so each host that the journal with this index tells to have been met.
-fn check_file(
-    files: &[JournalFile<'_>],
-    first: usize,
-    opening: &Header,
-    index: usize,
-) -> Result<(), JournalsFault>
+/// What is wrong with the first meeting that does not agree with the journals, of those that the journal with this index
+/// tells.
+fn fault_in_file(files: &[ReadFile<'_>], opening: &Header, index: usize) -> Option<FileFault>
     requires index { index < length files.now }
-    requires guest { IsOnlyOne files.now WithGuest (Some first) }
-    requires opening { header_number files.now first ≡ Some opening.now }
-    ensures met { OnOk result (HasMet files.now opening.now.world (slice_get files.now index)) }
-    ensures fault { IfErr result (IsHeadersFault files.now) }
+    requires world { AreOfOneWorld (headers_in files.now) opening.now.hosts opening.now }
+    ensures none { IfNone result (HasMet files.now opening.now.world (slice_get files.now index)) }
+    ensures some { IfSome result (HasMetOther files.now index) }
 {
-    match fault_in_lines(files, opening, &files[index].bytes) {
-        Some(fault) => Err(JournalsFault::File(index, fault)),
-        None => Ok(()),
-    }
+    fault_in(files, opening, files[index].journal().meetings())
 }
 
-/// What is wrong with the first meeting that does not agree with the journals, of those that the lines of a journal tell.
-fn fault_in_lines(files: &[JournalFile<'_>], opening: &Header, bytes: &[u8]) -> Option<FileFault>
-    ensures none { IfNone result (AllMeetings (Agrees files.now opening.now.world) (lines bytes.now)) }
+/// What is wrong with the first of these meetings that does not agree with the journals.
+fn fault_in(files: &[ReadFile<'_>], opening: &Header, meetings: &[Meeting]) -> Option<FileFault>
+    ensures none { IfNone result (AllMeetings (Agrees files.now opening.now.world) meetings.now) }
     ensures some { IfSome result
-        (λ fault. SomeMeeting (IsOtherMeeting files.now opening.now fault) (lines bytes.now)) }
+        (λ fault. SomeMeeting (IsOtherMeeting files.now opening.now fault) meetings.now) }
 {
-    let mut rest = bytes;
-    while !rest.is_empty() {
-        let (line, behind) = split_line(rest);
-        if let Some(fault) = fault_in_line(files, opening, line) {
+    for index in 0..meetings.len() {
+        if let Some(fault) = fault_of(files, opening, &meetings[index]) {
             return Some(fault);
         }
-        rest = behind;
     }
     None
 }
 
-/// What is wrong with the meeting that a line tells, if it tells one that does not agree with the journals.
-fn fault_in_line(files: &[JournalFile<'_>], opening: &Header, line: &[u8]) -> Option<FileFault>
-    ensures none { IfNone result (IfSome (meeting_of line.now) (Agrees files.now opening.now.world)) }
-    ensures some { IfSome result
-        (λ fault. IsSomeAnd (meeting_of line.now) (IsOtherMeeting files.now opening.now fault)) }
-{
-    match meeting_of(line) {
-        Some(meeting) => fault_of(files, opening, &meeting),
-        None => None,
-    }
-}
-
 /// What is wrong with a meeting, if it does not agree with the journals.
-fn fault_of(files: &[JournalFile<'_>], opening: &Header, meeting: &Meeting) -> Option<FileFault>
+fn fault_of(files: &[ReadFile<'_>], opening: &Header, meeting: &Meeting) -> Option<FileFault>
     ensures none { IfNone result (Agrees files.now opening.now.world meeting.now) }
     ensures some { IfSome result (λ fault. IsOtherMeeting files.now opening.now fault meeting.now) }
 {
@@ -96,7 +67,7 @@ fn fault_of(files: &[JournalFile<'_>], opening: &Header, meeting: &Meeting) -> O
 }
 
 /// Whether no journal tells another process of the host that was met.
-fn have_process(files: &[JournalFile<'_>], meeting: &Meeting) -> bool
+fn have_process(files: &[ReadFile<'_>], meeting: &Meeting) -> bool
     ensures all { result ≡ true → HaveProcess files.now meeting.now (length files.now) }
     ensures other { result ≡ false → HasOtherProcess files.now meeting.now }
 {
@@ -109,13 +80,11 @@ fn have_process(files: &[JournalFile<'_>], meeting: &Meeting) -> bool
 }
 
 /// Whether the journal with this index is of another host than the one that was met, or tells its process.
-fn is_process(files: &[JournalFile<'_>], index: usize, meeting: &Meeting) -> bool
+fn is_process(files: &[ReadFile<'_>], index: usize, meeting: &Meeting) -> bool
     requires { index < length files.now }
     ensures same { result ≡ true → IsProcess meeting.now (header_number files.now index) }
     ensures other { result ≡ false → IsOtherProcess meeting.now (header_number files.now index) }
 {
-    match read_header(&files[index].bytes) {
-        Some(header) => header.host != meeting.host || header.process == meeting.process,
-        None => true,
-    }
+    let header = files[index].journal().header();
+    header.host != meeting.host || header.process == meeting.process
 }

@@ -8,16 +8,15 @@ ghost use Rattle.rvm_replay.specs.Audited.{is_wanted};
 ghost use Rattle.rvm_replay.specs.PlaceLines.{journal_name, place_line, place_lines, place_text};
 ghost use Rattle.rvm_replay.specs.declared.headers.Wanted.TheVariants.{OfHost};
 
-use crate::file::JournalFile;
+use crate::file::ReadFile;
 use crate::headers::{Wanted, is_wanted};
 use rvm_audit::Place;
-use rvm_journal::read_header;
 use rvm_refusal::LinkFault;
 use std::io::Write;
 
 /// Reports for each host how many events of its journal are in order, of those that it has.
 pub(crate) fn write_places<E: Write>(
-    files: &[JournalFile<'_>],
+    files: &[ReadFile<'_>],
     places: &[Place],
     counts: &[u64],
     errors: &mut E,
@@ -45,7 +44,7 @@ fn taken(places: &[Place], host: usize) -> usize
 
 /// Reports how many events of the journal of a host are in order, of these.
 fn write_place<E: Write>(
-    files: &[JournalFile<'_>],
+    files: &[ReadFile<'_>],
     host: u8,
     place: usize,
     count: u64,
@@ -75,23 +74,20 @@ fn write_text<E: Write>(
 }
 
 /// The name of the file of a host's journal.
-fn journal_name<'a>(files: &'a [JournalFile<'_>], host: u8) -> &'a str
+fn journal_name<'a>(files: &[ReadFile<'a>], host: u8) -> &'a str
     ensures { result.now ≡ journal_name host files.now }
 {
     for file in files {
         if is_of(file, host) {
-            return file.name;
+            return file.name();
         }
     }
     "no journal"
 }
 
 /// Whether a journal is that of a host.
-pub(crate) fn is_of(file: &JournalFile<'_>, host: u8) -> bool
-    ensures { result ≡ is_wanted (OfHost host) (header_at file.now.bytes.items) }
+pub(crate) fn is_of(file: &ReadFile<'_>, host: u8) -> bool
+    ensures { result ≡ is_wanted (OfHost host) (header_at file.now.text) }
 {
-    match read_header(&file.bytes) {
-        Some(header) => is_wanted(Wanted::OfHost(host), &header),
-        None => false,
-    }
+    is_wanted(Wanted::OfHost(host), &file.journal().header())
 }

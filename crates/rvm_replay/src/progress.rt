@@ -1,17 +1,13 @@
 //! What is shown while journals are audited. What cannot be written is lost.
 
-use crate::file::JournalFile;
 use std::io::{self, Write};
 
-/// Shows that the host of the journal with this index, from 0, does again what it tells.
-pub(crate) fn show_replay<P: Write>(files: &[JournalFile<'_>], index: usize, progress: &mut P) {
-    let Some(file) = files.get(index) else {
-        return;
-    };
-    let _lost = write_replay(file.name, index + 1, files.len(), progress);
+/// Shows that the host of the journal in the file with this name does again what it tells: journal `number` of `of`.
+pub(crate) fn show_replay<P: Write>(name: &str, number: usize, of: usize, progress: &mut P) {
+    let _lost = write_replay(name, number, of, progress);
 }
 
-/// Writes that the host of the journal with this name is replayed: journal `number` of `of`.
+/// Writes that the host of a journal is replayed.
 fn write_replay<P: Write>(
     name: &str,
     number: usize,

@@ -1,12 +1,13 @@
 //! `rvmove replay` with a script: a session of the debugger with the guest that is at the host of a journal after what
 //! the host did.
 
-ghost use Rattle.std.specs.Prelude.{◌≡◌, ◌⊎◌, IfOk, OnErr, OnOk, Some, option_map};
+ghost use Rattle.std.specs.Prelude.{◌≡◌, List, ℕ, IfOk, OnErr, OnOk, Some, option_map};
 ghost use Rattle.std.specs.Io.Buffered.{writer_contents};
 ghost use Rattle.std.specs.Io.KnownBytes.{Appends};
 ghost use Rattle.rvm_command.specs.Flushed.{is_flushed};
 ghost use Rattle.rvm_board.specs.Guest.{GuestState};
-ghost use Rattle.rvm_replay.specs.Replays.{HasAnswerStatus, HasAnswered, HasSessionStatus, IsAnswered, IsNoSession, IsSessionRefused, IsUnanswered, IsUntold, no_guest_line};
+ghost use Rattle.rvm_journal.specs.Whole.{IsJournal};
+ghost use Rattle.rvm_replay.specs.Replays.{HasAnswerStatus, HasSessionStatus, IsUntold, no_guest_line};
 
 use crate::hosts::host_of_journal;
 use crate::report::report_fault;
@@ -16,39 +17,37 @@ use rvm_command::refused::{Refused, tell};
 use rvm_mem::PagedMemory;
 use rvm_refusal::LinkFault;
 use std::alloc::Global;
-use std::io::{BufWriter, Read, Write};
+use std::io::{BufRead, BufWriter, Read, Write};
 
-/// Makes the host of a journal anew, has it do again what the journal tells, or only the first `until` events, and hands
-/// the guest that is then at the host to the debugger: does what each line of the extended session in `reader` asks for,
-/// and writes the answers to `output`. What the guest sent before is not written. `name` is the journal's file; `image`
-/// is the file of the image with which the host began, and is not used if it began without a guest.
+/// Makes the host of a journal anew, which is read from `journal`, has it do again what the journal tells, or only the first
+/// `until` events, and hands the guest that is then at the host to the debugger: does what each line of the extended session in
+/// `reader` asks for, and writes the answers to `output`. What the guest sent before is not written. `name` is the journal's
+/// file; `image` is the file of the image with which the host began, and is not used if it began without a guest.
 ///
 /// Returns the status: 0 if all lines were answered, and then `output` is flushed, and `errors` gets nothing; 1 if the
 /// journal is refused, if no guest is at the host, if the session is refused, or if a read or a write to `output` fails,
 /// and then `errors` says why. The error `LinkFault` says that a write to `errors` failed.
-pub fn replay_session<M: PagedMemory + Drop, R: Read, O: Write + Drop, E: Write>(
+pub fn replay_session<M: PagedMemory + Drop, I: BufRead + Drop, R: Read, O: Write + Drop, E: Write>(
     alloc: Global,
     name: &str,
-    journal: &[u8],
+    journal: I,
     image: &[u8],
     until: Option<u64>,
     reader: &mut R,
     output: &mut BufWriter<O>,
     errors: &mut E,
 ) -> Result<u8, LinkFault>
-    ensures status { IfOk result (λ status. (status ≡ 0) ⊎ (status ≡ 1)) }
-    ensures answered { IfOk result (λ status. status ≡ 0 → HasAnswered until journal.now image.now (R.remaining reader.old)
-        (writer_contents O.contents output.old) (writer_contents O.contents output.new)) }
-    ensures out { IfOk result (λ status. status ≡ 0 → is_flushed output.new) }
-    ensures silent { IfOk result (λ status. status ≡ 0 → E.contents errors.new ≡ E.contents errors.old) }
-    ensures refused { IfOk result (λ status. status ≡ 1 → IsNoSession name.now until journal.now image.now
-        (R.remaining reader.old) (writer_contents O.contents output.old) (writer_contents O.contents output.new)
+    ensures status { IfOk result (λ status. (text : List ℕ) × IsJournal (I.remaining journal) text
+        × HasSessionStatus status name.now until text image.now (R.remaining reader.old)
+        (writer_contents O.contents output.old) (writer_contents O.contents output.new)
         (E.contents errors.old) (E.contents errors.new)) }
-    ensures untold { OnErr result (IsUntold (λ status before after. HasSessionStatus status name.now until journal.now
+    ensures out { IfOk result (λ status. status ≡ 0 → is_flushed output.new) }
+    ensures untold { OnErr result ((text : List ℕ) × IsJournal (I.remaining journal) text
+        × IsUntold (λ status before after. HasSessionStatus status name.now until text
         image.now (R.remaining reader.old) (writer_contents O.contents output.old)
         (writer_contents O.contents output.new) before after)) }
 {
-    match host_of_journal::<M, ()>(alloc, journal, image, until) {
+    match host_of_journal::<M, (), I>(alloc, journal, image, until) {
         Ok(done) => session_at(alloc, name, done.guest, done.count, reader, output, errors),
         Err(fault) => {
             report_fault(name, fault, errors)?;
@@ -68,14 +67,11 @@ fn session_at<M: PagedMemory + Drop, R: Read, O: Write + Drop, E: Write>(
     output: &mut BufWriter<O>,
     errors: &mut E,
 ) -> Result<u8, LinkFault>
-    ensures status { IfOk result (λ status. (status ≡ 0) ⊎ (status ≡ 1)) }
-    ensures answered { IfOk result (λ status. status ≡ 0 → IsAnswered (option_map (λ (g : GuestState). g.guest) guest) (R.remaining reader.old)
-        (writer_contents O.contents output.old) (writer_contents O.contents output.new)) }
-    ensures out { IfOk result (λ status. status ≡ 0 → is_flushed output.new) }
-    ensures silent { IfOk result (λ status. status ≡ 0 → E.contents errors.new ≡ E.contents errors.old) }
-    ensures refused { IfOk result (λ status. status ≡ 1 → IsUnanswered name.now (option_map (λ (g : GuestState). g.guest) guest) count
-        (R.remaining reader.old) (writer_contents O.contents output.old) (writer_contents O.contents output.new)
+    ensures status { IfOk result (λ status. HasAnswerStatus status name.now
+        (option_map (λ (g : GuestState). g.guest) guest) count (R.remaining reader.old)
+        (writer_contents O.contents output.old) (writer_contents O.contents output.new)
         (E.contents errors.old) (E.contents errors.new)) }
+    ensures out { IfOk result (λ status. status ≡ 0 → is_flushed output.new) }
     ensures untold { OnErr result (IsUntold (λ status before after. HasAnswerStatus status name.now (option_map (λ (g : GuestState). g.guest) guest)
         count (R.remaining reader.old) (writer_contents O.contents output.old)
         (writer_contents O.contents output.new) before after)) }
@@ -105,17 +101,13 @@ fn session_of<M: PagedMemory + Drop, R: Read, O: Write + Drop, E: Write>(
     output: &mut BufWriter<O>,
     errors: &mut E,
 ) -> Result<u8, LinkFault>
-    ensures status { IfOk result (λ status. (status ≡ 0) ⊎ (status ≡ 1)) }
-    ensures answered { IfOk result (λ status. status ≡ 0 → IsAnswered (Some guest.guest) (R.remaining reader.old)
-        (writer_contents O.contents output.old) (writer_contents O.contents output.new)) }
-    ensures out { IfOk result (λ status. status ≡ 0 → is_flushed output.new) }
-    ensures silent { IfOk result (λ status. status ≡ 0 → E.contents errors.new ≡ E.contents errors.old) }
-    ensures refused { IfOk result (λ status. status ≡ 1 → IsSessionRefused guest.guest (R.remaining reader.old)
-        (writer_contents O.contents output.old) (writer_contents O.contents output.new)
+    ensures status { (name : List ℕ) (count : ℕ) → IfOk result (λ status. HasAnswerStatus status name (Some guest.guest)
+        count (R.remaining reader.old) (writer_contents O.contents output.old) (writer_contents O.contents output.new)
         (E.contents errors.old) (E.contents errors.new)) }
-    ensures untold { OnErr result (IsUntold (λ status before after. (status ≡ 1) × IsSessionRefused guest.guest
-        (R.remaining reader.old) (writer_contents O.contents output.old) (writer_contents O.contents output.new)
-        before after)) }
+    ensures out { IfOk result (λ status. status ≡ 0 → is_flushed output.new) }
+    ensures untold { (name : List ℕ) (count : ℕ) → OnErr result (IsUntold (λ status before after. HasAnswerStatus status
+        name (Some guest.guest) count (R.remaining reader.old) (writer_contents O.contents output.old)
+        (writer_contents O.contents output.new) before after)) }
 {
     let mut guest = guest;
     let answered = answer(alloc, &mut guest, true, reader, output);

@@ -1,14 +1,16 @@
 //! Where a turn of the guest stands: at which host it was made, and where in the journal of that host.
 
-ghost use Rattle.std.specs.Prelude.{◌≡◌, ◌≤◌, ◌<◌, ◌-◌, List, ℕ, IfErr, IfOk, Some, length, slice_get, take};
+ghost use Rattle.std.specs.Prelude.{◌≡◌, ◌≤◌, ◌<◌, ◌-◌, List, ℕ, IfErr, IfNone, IfOk, IfSome, None, Some, length, slice_get, take, true};
 ghost use Rattle.rvm_audit.specs.Rule.{IsMerge};
-ghost use Rattle.rvm_replay.specs.Audited.{AreReplayed, journals_in};
-ghost use Rattle.rvm_replay.specs.Turns.{IsPlaceOf, IsUnplaced, count_at, hosts_in, hosts_of, turn_at, turn_hosts};
+ghost use Rattle.rvm_replay.specs.Audited.{AreReplayed, IsOnlyOne, is_wanted, journals_in};
+ghost use Rattle.rvm_replay.specs.Journals.{header_number, headers_in};
+ghost use Rattle.rvm_replay.specs.Turns.{IsPlaceOf, count_at, hosts_in, hosts_of, turn_at, turn_hosts};
+ghost use Rattle.rvm_replay.specs.declared.headers.Wanted.TheVariants.{OfHost};
 
 use crate::counts::turns_of;
-use crate::file::{JournalFile, JournalsFault};
-use crate::headers::{Wanted, index_of};
+use crate::file::ReadFile;
 use crate::journal_turns::count_to_turn;
+use crate::places::is_of;
 use rvm_audit::{HostTurns, Order, Piece};
 use rvm_core::Event;
 use rvm_mem::PagedMemory;
@@ -23,41 +25,43 @@ pub(crate) struct TurnPlace {
     pub count: u32,
 }
 
-/// Why a turn has no place in journals.
-#[derive(Clone, Copy)]
-pub(crate) enum Unplaced {
-    /// The journals tell only this many turns.
-    Few(u32),
-    /// The journals are not as they must be.
-    Fault(JournalsFault),
-}
-
-/// The place of the turn with this number, from 1, in an order of the journals of these hosts.
+/// The place of the turn with this number, from 1, in an order of the journals of these hosts. Fails with the number of all
+/// turns if there are fewer.
 pub(crate) fn find_turn<M: PagedMemory + Drop>(
-    files: &[JournalFile<'_>],
+    files: &[ReadFile<'_>],
     all: &[Recorded<M>],
     order: &Order,
     turn: u32,
-) -> Result<TurnPlace, Unplaced>
+) -> Result<TurnPlace, u32>
     requires some { 1 ≤ turn }
     requires replayed { (image : List ℕ) × AreReplayed files.now image all.now }
     requires merge { IsMerge (journals_in all.now) order.now }
     ensures place { IfOk result (λ p. IsPlaceOf files.now all.now order.now turn p.index p.count) }
     ensures there { IfOk result (λ p. p.index < length files.now) }
-    ensures unplaced { IfErr result (IsUnplaced files.now order.now turn) }
+    ensures few { IfErr result (λ all. (length (turn_hosts order.now) ≡ all) × (all < turn)) }
 {
-    let host = match host_of_turn(order, turn) {
-        Ok(host) => host,
-        Err(all) => return Err(Unplaced::Few(all)),
-    };
+    let host = host_of_turn(order, turn)?;
     let own = turns_of_host(order, turn, host);
     let number = usize::from(host);
     let count = count_to_turn(&all[number], own);
-    match index_of(files, Wanted::OfHost(host)) {
-        Ok(Some(index)) => Ok(TurnPlace { index, count }),
-        Ok(None) => unreachable!(),
-        Err(fault) => Err(Unplaced::Fault(fault)),
+    match index_of_host(files, host) {
+        Some(index) => Ok(TurnPlace { index, count }),
+        None => unreachable!(),
     }
+}
+
+/// The index of the first journal of a host; none if no journal is of it.
+fn index_of_host(files: &[ReadFile<'_>], host: u8) -> Option<usize>
+    ensures there { IfSome result (λ i. i < length files.now) }
+    ensures of_host { IfSome result (λ i. is_wanted (OfHost host) (header_number files.now i) ≡ true) }
+    ensures none { IfNone result (IsOnlyOne (headers_in files.now) (OfHost host) None) }
+{
+    for index in 0..files.len() {
+        if is_of(&files[index], host) {
+            return Some(index);
+        }
+    }
+    None
 }
 
 /// The host that was asked for the turn with this number, from 1, in an order. Fails with the number of all turns if there

@@ -2,7 +2,7 @@
 
 use rvm_board::BoardEvent;
 use rvm_frame::Frame;
-use rvm_journal::{Header, JournalWriter, is_whole};
+use rvm_journal::{Header, JournalWriter};
 use rvm_message::Command;
 use rvm_refusal::LinkFault;
 use rvm_station::EventLog;
@@ -53,17 +53,5 @@ fn a_journal_ends_with_the_last_line_that_fits(rt: HostRuntime) -> Result<(), Fa
     assert!(rt; keep_events(rt.alloc(), file.as_mut_slice()) == Err(LinkFault));
     let whole = JOURNAL.len() - 50;
     assert!(rt; file.starts_with(&JOURNAL.as_bytes()[..whole]));
-    Ok(())
-}
-
-#[test]
-fn a_journal_whose_end_does_not_fit_is_cut_off(rt: HostRuntime) -> Result<(), Fail> {
-    let mut file = [0u8; 234];
-    keep_events(rt.alloc(), file.as_mut_slice())?;
-    assert!(rt; is_whole(file.as_slice()));
-    let mut file = [0u8; 213];
-    assert!(rt; keep_events(rt.alloc(), file.as_mut_slice()) == Err(LinkFault));
-    assert!(rt; file.as_slice() == &JOURNAL.as_bytes()[..213]);
-    assert!(rt; !is_whole(file.as_slice()));
     Ok(())
 }

@@ -14,7 +14,6 @@ use rvm_message::{Command, HostEvent};
 use rvm_paged::PagedRam;
 use rvm_recorder::Recorded;
 use rvm_replay::audit::{AuditText, audit_journals};
-use rvm_replay::file::JournalFile;
 use rvm_station::Meeting;
 use std::alloc::Global;
 use std::io::{self, BufWriter};
@@ -307,6 +306,13 @@ fn tell<R: AllocGlobal + Print>(rt: &R, name: &str, case: Case, bytes: &[&[u8]; 
     None
 }
 
+/// The files of an audit.
+#[derive(Drop)]
+struct Files<'a> {
+    names: Vec<&'a str>,
+    inputs: Vec<&'a [u8]>,
+}
+
 /// Audits the files of a case, with these bytes. Returns false if memory ran out.
 fn tell_files<R: AllocGlobal + Print>(
     rt: &R,
@@ -317,31 +323,27 @@ fn tell_files<R: AllocGlobal + Print>(
     third: &[u8],
 ) -> Option<bool> {
     let alloc = rt.alloc();
-    let mut files = Vec::new(alloc);
+    let mut files = Files {
+        names: Vec::new(alloc),
+        inputs: Vec::new(alloc),
+    };
     if !matches!(case, Case::Without(0)) {
-        put(alloc, &mut files, "a.journal", first)?;
+        put(&mut files, "a.journal", first)?;
     }
     if !matches!(case, Case::Without(1)) {
-        put(alloc, &mut files, "b.journal", second)?;
+        put(&mut files, "b.journal", second)?;
     }
-    put(alloc, &mut files, "c.journal", third)?;
+    put(&mut files, "c.journal", third)?;
     if matches!(case, Case::Twice) {
-        put(alloc, &mut files, "d.journal", second)?;
+        put(&mut files, "d.journal", second)?;
     }
-    tell_audit(rt, name, files.as_slice(), case)
+    tell_audit(rt, name, files, case)
 }
 
 /// Adds a file with this name and these bytes.
-fn put<'a>(
-    alloc: Global,
-    files: &mut Vec<JournalFile<'a>>,
-    name: &'a str,
-    bytes: &[u8],
-) -> Option<()> {
-    let mut copy = Vec::new(alloc);
-    copy.extend_from_slice(bytes).ok()?;
-    files.reserve(1).ok()?;
-    files.push(JournalFile { name, bytes: copy }).ok()
+fn put<'a>(files: &mut Files<'a>, name: &'a str, bytes: &'a [u8]) -> Option<()> {
+    files.names.push(name).ok()?;
+    files.inputs.push(bytes).ok()
 }
 
 /// The image in a case.
@@ -356,7 +358,7 @@ fn image_of(case: Case) -> &'static [u8] {
 fn tell_audit<R: AllocGlobal + Print>(
     rt: &R,
     name: &str,
-    files: &[JournalFile<'_>],
+    files: Files<'_>,
     case: Case,
 ) -> Option<bool> {
     let is_order = matches!(case, Case::Order);
@@ -381,7 +383,7 @@ fn tell_audit<R: AllocGlobal + Print>(
 /// The status of an audit, which writes to a buffer in front of `output`. None if memory ran out.
 fn status_of(
     alloc: Global,
-    files: &[JournalFile<'_>],
+    files: Files<'_>,
     case: Case,
     output: &mut Vec<u8>,
     errors: &mut Vec<u8>,
@@ -391,10 +393,15 @@ fn status_of(
         _ => AuditText::Summary,
     };
     let image = image_of(case);
-    let mut buffer = BufWriter::new(alloc, output).ok()?;
-    audit_journals::<PagedRam, _, _, _>(
+    let Files { names, inputs } = files;
+    if names.len() != inputs.len() {
+        return None;
+    }
+    let mut buffer = BufWriter::new(alloc, &mut *output).ok()?;
+    audit_journals::<PagedRam, &[u8], _, _, _>(
         alloc,
-        files,
+        names.as_slice(),
+        inputs,
         image,
         text,
         &mut buffer,

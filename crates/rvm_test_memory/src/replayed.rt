@@ -1,6 +1,8 @@
 //! A journal in a file that is done again, and audited, where its events, if they were kept, would take more memory than
 //! there is.
 
+ghost use Rattle.std.specs.Prelude.{◌≡◌, IfSome, length};
+
 use crate::heap::Heap;
 use crate::trial::{Trial, Tried, print_tried};
 use rvm_board::BoardEvent;
@@ -9,7 +11,6 @@ use rvm_mem::FlatMemory;
 use rvm_message::Command;
 use rvm_refusal::LinkFault;
 use rvm_replay::audit::{AuditText, audit_journals};
-use rvm_replay::file::JournalFile;
 use rvm_replay::replay_command::replay_command;
 use rvm_station::EventLog;
 use std::alloc::Global;
@@ -43,14 +44,9 @@ const TEXT_SIZE: usize = 512;
 /// Does the journal again, and audits it.
 pub fn try_calls<R: AllocGlobal + Print>(rt: &R, heap: &mut Heap) -> Option<()> {
     let bytes = write_journal(rt.alloc())?;
-    let journal = JournalFile { name: NAME, bytes };
-    print_tried(
-        rt,
-        heap,
-        "replay_command",
-        &mut Replay { journal: &journal },
-    )?;
-    print_tried(rt, heap, "audit_journals", &mut Audit { journal: &journal })
+    let journal = bytes.as_slice();
+    print_tried(rt, heap, "replay_command", &mut Replay { journal })?;
+    print_tried(rt, heap, "audit_journals", &mut Audit { journal })
 }
 
 /// The journal of the first of two hosts, where the guest takes its turns.
@@ -91,7 +87,7 @@ fn tells_no_memory(errors: &[u8]) -> bool {
 /// The trial of doing a journal again.
 #[derive(Drop)]
 struct Replay<'a> {
-    journal: &'a JournalFile<'a>,
+    journal: &'a [u8],
 }
 
 impl Trial for Replay<'_> {
@@ -102,10 +98,10 @@ impl Trial for Replay<'_> {
         if heap.leave(alloc, room).is_none() {
             return Tried::Wrong;
         }
-        let told = replay_command::<FlatMemory, _, _>(
+        let told = replay_command::<FlatMemory, &[u8], _, _>(
             alloc,
             NAME,
-            self.journal.bytes.as_slice(),
+            self.journal,
             &IMAGE,
             None,
             &mut io::sink(),
@@ -119,7 +115,7 @@ impl Trial for Replay<'_> {
 /// The trial of auditing a journal. The other host has done nothing.
 #[derive(Drop)]
 struct Audit<'a> {
-    journal: &'a JournalFile<'a>,
+    journal: &'a [u8],
 }
 
 impl Trial for Audit<'_> {
@@ -130,12 +126,16 @@ impl Trial for Audit<'_> {
         ) else {
             return Tried::Wrong;
         };
+        let Some(inputs) = alone(alloc, self.journal) else {
+            return Tried::Wrong;
+        };
         if heap.leave(alloc, room).is_none() {
             return Tried::Wrong;
         }
-        let told = audit_journals::<FlatMemory, _, _, _>(
+        let told = audit_journals::<FlatMemory, &[u8], _, _, _>(
             alloc,
-            std::slice::from_ref(self.journal),
+            &[NAME],
+            inputs,
             &IMAGE,
             AuditText::Summary,
             &mut output,
@@ -145,4 +145,13 @@ impl Trial for Audit<'_> {
         heap.release();
         tried_by(told, errors.is_empty(), errors.as_slice())
     }
+}
+
+/// One journal.
+fn alone(alloc: Global, journal: &[u8]) -> Option<Vec<&[u8]>>
+    ensures { IfSome result (λ inputs. 1 ≡ length inputs.items) }
+{
+    let mut inputs = Vec::new(alloc);
+    inputs.push(journal).ok()?;
+    Some(inputs)
 }

@@ -1,34 +1,7 @@
-use Rattle.std.proofs.Common.{List, ℕ, subst}
-use denote.Ref.{Bor}
-use Rattle.rvm_program.specs.Ended.{AreJournals, HasAudited, Written, written}
-use Rattle.rvm_program.proofs.AuditedFiles.{has_audited, untold_audit}
-use Rattle.rvm_program.proofs.ReplayEnds.{file_untold}
 use Rattle.rvm_program.proofs.journals.audit_journals.Goals as goal
 
-pub returns-in-Ok-clause-ended : goal.returns-in-Ok-clause-ended
-returns-in-Ok-clause-ended g c =
-    let journals = subst (λ (names : List (Bor (List ℕ))). AreJournals (g.F.NamedFiles.bytes_of c.args.files.now) names
-    c.in-Ok.read.journals.items) c.as_slice.ensures.value c.in-Ok.ensures.journals in
-    has_audited (g.F.NamedFiles.bytes_of c.args.files.now) (g.F.NamedFiles.created_of c.args.files.now) c.args.arguments.now
-    c.in-Ok.read.journals.items
-    c.in-Ok.read.image.items (g.O.Write.contents c.args.output.now)
-    (written (g.E.Write.contents c.args.errors.now) (g.E.Write.contents c.show_audit.new.errors)) c.show_audit.result
-    journals c.in-Ok.ensures.image
-    c.show_audit.ensures.ended
+pub returns-in-Some-clause-ended : goal.returns-in-Some-clause-ended
+returns-in-Some-clause-ended g c = c.draw_journals.ensures.ended (g.O.Write.contents c.args.output.now)
 
-pub returns-in-Ok-clause-untold : goal.returns-in-Ok-clause-untold
-returns-in-Ok-clause-untold g c =
-    let journals = subst (λ (names : List (Bor (List ℕ))). AreJournals (g.F.NamedFiles.bytes_of c.args.files.now) names
-    c.in-Ok.read.journals.items) c.as_slice.ensures.value c.in-Ok.ensures.journals in
-    untold_audit (g.F.NamedFiles.bytes_of c.args.files.now) (g.F.NamedFiles.created_of c.args.files.now) c.args.arguments.now
-    c.in-Ok.read.journals.items
-    c.in-Ok.read.image.items (g.O.Write.contents c.args.output.now) c.show_audit.result
-    journals c.in-Ok.ensures.image
-    c.show_audit.ensures.untold
-
-pub returns-in-Err-clause-untold : goal.returns-in-Err-clause-untold
-returns-in-Err-clause-untold g c =
-    let files = g.F.NamedFiles.bytes_of c.args.files.now in
-    let Ends : ℕ → Written → Type 0 = λ status errors. HasAudited files (g.F.NamedFiles.created_of c.args.files.now) c.args.arguments.now status
-    (g.O.Write.contents c.args.output.now) errors in
-    file_untold c.tell_file.result Ends files c.in-Err.path.now c.in-Err.why c.in-Err.ensures.refused
+pub returns-in-Some-clause-untold : goal.returns-in-Some-clause-untold
+returns-in-Some-clause-untold g c = c.draw_journals.ensures.untold (g.O.Write.contents c.args.output.now)
