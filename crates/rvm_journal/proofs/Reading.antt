@@ -196,7 +196,7 @@ line_more o now after bytes line so consumed one = record {
   ends = sym (append_assoc bytes line (codes "\n"));
 }
 
--- what was read, and the whole lines behind it, are the text
+-- what was read, and the whole lines that follow it, are the text
 text_of : (o : Opened) (now : Option (List ℕ)) (bytes w : List ℕ) → IsRead o now bytes → IsJournal now w
     → IsTextOf o (bytes ++ w)
 text_of o now bytes w so behind = record {
@@ -241,7 +241,7 @@ not_all None left bytes text es is none = cc
 not_all (Some m) left bytes text es is none = tt
 
 module _ (n h : ℕ) where
-  -- lines behind those that were done
+  -- lines after those that were done
   grown : (most left : Option ℕ) (ls more : List (List ℕ)) (digest : List ℕ) (number : ℕ) (a b : Recording)
       → Doing n h most left ls [] digest number a b → Doing n h most left (ls ++ more) more digest number a b
   grown most left ls more digest number a b so = record {
@@ -309,7 +309,7 @@ module _ (n h : ℕ) where
             (inr none),
       )
 
-  -- a line was read, and this is so of it and those behind it
+  -- a line was read, and this holds of it and of those that follow
   pub at_line : (o : Opened) (most left : Option ℕ) (now after : Option (List ℕ)) (bytes line digest : List ℕ) (number : ℕ)
       (why : JournalFault) (a b : Recording) → Reading o most left now bytes digest number a b
       → Consumes now after (line ++ codes "\n") → list_all is_no_feed line ≡ true

@@ -177,7 +177,7 @@ fn open_replayed<'a, F: NamedFiles>(
     })
 }
 
-/// Opens a journal, behind a buffer. Fails with its name and the refusal.
+/// Opens a journal for buffered reading. Fails with its name and the refusal.
 fn open_journal<'a, F: NamedFiles>(
     alloc: Global,
     files: &F,

@@ -89,7 +89,7 @@ all_texts (n ∷ ns) (o ∷ os) long have =
     let rest = all_texts ns os (omega (arith, long)) have.1 in
     (record { name = n.now; text = have.0.0 } ∷ rest.0, (refl, have.0.1, rest.1))
 
--- texts of some journals, and of others behind them
+-- texts of some journals, followed by those of others
 pub texts_both : (ns ms : List (Bor (List ℕ))) (os ps : List Opened) (fs gs : List JournalText) → AreTextsOf ns os fs
     → AreTextsOf ms ps gs → AreTextsOf (ns ++ ms) (os ++ ps) (fs ++ gs)
 texts_both [] ms [] ps [] gs are more = more
